@@ -1,0 +1,36 @@
+-- 'Registers (4096 bytes, aligned 4-byte access only)': the register region.
+use Prim.Native.Nat.{ℕ, _/_, _%_, _^_}
+use mathlib.Core.Bool.{Bool, true, false, cond}
+use lib.Dec.{eqb}
+use Rattle.common.specs.Bytes.{bit}
+use Rattle.device.specs.declared.Peer.{Peer}
+use Rattle.device.specs.declared.Settings.{Settings}
+
+pub data Register : Type 0 where
+  identity maximumPeers interruptControl doorbell state none : Register
+
+unfoldable pub registerAt : ℕ → Register
+registerAt at =
+    cond (eqb at 0x00) identity
+    (cond (eqb at 0x04) maximumPeers
+    (cond (eqb at 0x08) interruptControl (cond (eqb at 0x0C) doorbell (cond (eqb at 0x10) state none))))
+
+-- Command bit 1, Memory Space: the register region and the MSI-X region answer
+unfoldable pub memoryOn : Peer → Bool
+memoryOn p = bit 1 (p .command)
+
+-- what both regions read while it is off
+abbrev pub unmapped : ℕ
+unmapped = 0xFFFFFFFF
+
+-- 'Other offsets read 0', and so does the Doorbell
+unfoldable pub registerValue : Settings → ℕ → Peer → Register → ℕ
+registerValue s who p identity = who
+registerValue s who p maximumPeers = s .peers
+registerValue s who p interruptControl = p .interrupt
+registerValue s who p doorbell = 0
+registerValue s who p state = p .state
+registerValue s who p none = 0
+
+unfoldable pub registerRead : Settings → ℕ → Peer → ℕ → ℕ
+registerRead s who p at = cond (memoryOn p) (registerValue s who p (registerAt at)) unmapped

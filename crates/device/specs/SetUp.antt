@@ -1,0 +1,58 @@
+-- 'Numbers accepted at set-up', and what a set-up leaves.
+use Prim.Native.Nat.{ℕ, _+_, _*_, _%_, _^_}
+use mathlib.Core.Bool.{Bool, true, false, not, cond}
+use mathlib.Core.List.{List, [], _∷_}
+use lib.Dec.{eqb, leb, ltb}
+use lib.ListN.{length, replicate}
+use Rattle.common.specs.Tests.{row, first, every}
+use Rattle.device.specs.declared.Settings.{Settings}
+use Rattle.device.specs.Sizes.{maxPeers, maxVectors}
+use Rattle.device.specs.World.{Hub, zeroHub, resetSlot}
+
+-- the page that sizes and addresses are multiples of
+abbrev pub paged : ℕ → Bool
+paged x = eqb (x % 4096) 0
+
+abbrev pub sixteenBits : ℕ → Bool
+sixteenBits x = ltb x (2 ^ 16)
+
+-- T, the region's length
+unfoldable pub total : Settings → ℕ
+total s = s .table + s .common + s .peers * s .output
+
+unfoldable pub accepted : Settings → Bool
+accepted s =
+    every
+    (leb 2 (s .peers)
+    ∷ leb (s .peers) maxPeers
+    ∷ leb 1 (s .vectors)
+    ∷ leb (s .vectors) maxVectors
+    ∷ not (eqb (s .table) 0)
+    ∷ paged (s .table)
+    ∷ leb (4 * s .peers) (s .table)
+    ∷ paged (s .common)
+    ∷ paged (s .output)
+    ∷ leb (total s) (2 ^ 30)
+    ∷ paged (s .base)
+    ∷ leb (s .base + total s) (2 ^ 64)
+    ∷ sixteenBits (s .protocol)
+    ∷ sixteenBits (s .vendor)
+    ∷ sixteenBits (s .subsystem)
+    ∷ [])
+
+-- The refusals of a set-up. A set-up is handed no hub but the memory for one; that it is not of a hub's length is refused with
+-- 10 too, since nothing can be set up there.
+unfoldable pub setUpRefusal : Bool → Settings → List ℕ → ℕ
+setUpRefusal roomy s region =
+    first (row 10 (not roomy) ∷ row 1 (not (accepted s)) ∷ row 2 (not (eqb (length region) (total s))) ∷ [])
+
+-- nobody connected, everything at reset
+unfoldable pub freshHub : Settings → Hub
+freshHub s = record { settings = s; slots = replicate maxPeers (resetSlot 0) }
+
+-- 'An accepted set-up makes the whole region zero with nobody connected', 'A refused set-up returns an all-zero hub'
+abbrev pub hubAfterSetUp : ℕ → Settings → Hub
+hubAfterSetUp number s = cond (eqb number 0) (freshHub s) zeroHub
+
+abbrev pub regionAfterSetUp : ℕ → List ℕ → List ℕ
+regionAfterSetUp number region = cond (eqb number 0) (replicate (length region) 0) region

@@ -1,0 +1,69 @@
+-- 'Sound: the set-up numbers would be accepted, bits that can't be written hold their fixed values, and unconnected or unused
+-- slots and vectors hold reset values.'
+use Prim.Native.Nat.{ℕ}
+use mathlib.Core.Bool.{Bool, true, false, cond, _&&_}
+use mathlib.Core.List.{List, [], _∷_}
+use lib.Dec.{eqb, ltb}
+use Rattle.common.specs.Bytes.{only}
+use Rattle.common.specs.Tests.{every, below}
+use Rattle.device.specs.declared.Entry.{Entry}
+use Rattle.device.specs.declared.Peer.{Peer}
+use Rattle.device.specs.declared.Settings.{Settings}
+use Rattle.device.specs.Configuration.{maskOf}
+use Rattle.device.specs.Msix.{addressMask, controlMask}
+use Rattle.device.specs.SetUp.{accepted}
+use Rattle.device.specs.Sizes.{maxPeers, maxVectors}
+use Rattle.device.specs.World.{Hub, Slot, slotAt, entryAt}
+
+-- every fixed bit of a connected peer's registers is 0: no bit is set but those that a write can set
+unfoldable pub peerFixed : Settings → Peer → Bool
+peerFixed s p =
+    every
+    (only (maskOf s 0x04 2) (p .command)
+    ∷ only (maskOf s 0x10 4) (p .bar0)
+    ∷ only (maskOf s 0x14 4) (p .bar1)
+    ∷ only (maskOf s 0x43 1) (p .privileged)
+    ∷ only (maskOf s 0x63 1) (p .message)
+    ∷ only 1 (p .interrupt)
+    ∷ [])
+
+unfoldable pub peerReset : Peer → Bool
+peerReset p =
+    every
+    (eqb (p .connected) 0
+    ∷ eqb (p .command) 0
+    ∷ eqb (p .bar0) 0
+    ∷ eqb (p .bar1) 0
+    ∷ eqb (p .privileged) 0
+    ∷ eqb (p .message) 0
+    ∷ eqb (p .interrupt) 0
+    ∷ eqb (p .state) 0
+    ∷ [])
+
+unfoldable pub entryFixed : Entry → Bool
+entryFixed e = every (only addressMask (e .low) ∷ only controlMask (e .control) ∷ [])
+
+unfoldable pub entryReset : Entry → Bool
+entryReset e = every (eqb (e .low) 0 ∷ eqb (e .high) 0 ∷ eqb (e .payload) 0 ∷ eqb (e .control) 1 ∷ [])
+
+-- a peer of the hub that is connected
+unfoldable pub inUse : Settings → ℕ → Peer → Bool
+inUse s i p = ltb i (s .peers) && eqb (p .connected) 1
+
+-- how many of a slot's vectors are in use
+unfoldable pub vectorsInUse : Settings → ℕ → Peer → ℕ
+vectorsInUse s i p = cond (inUse s i p) (s .vectors) 0
+
+unfoldable pub peerSound : Settings → ℕ → Peer → Bool
+peerSound s i p = cond (inUse s i p) (peerFixed s p) (peerReset p)
+
+unfoldable pub entrySound : ℕ → ℕ → Entry → Bool
+entrySound used v e = cond (ltb v used) (entryFixed e) (entryReset e)
+
+unfoldable pub slotSound : Settings → ℕ → Slot → Bool
+slotSound s i slot =
+    peerSound s i (slot .peer)
+    && below maxVectors (λ v. entrySound (vectorsInUse s i (slot .peer)) v (entryAt slot v))
+
+unfoldable pub sound : Hub → Bool
+sound hub = accepted (hub .settings) && below maxPeers (λ i. slotSound (hub .settings) i (slotAt hub i))
