@@ -1,0 +1,51 @@
+// Whole slots and whole hubs.
+use device::{Entry, Peer, Settings};
+
+ghost use mathlib.Core.Path.{_≡_};
+ghost use Prim.Native.Nat.{_<_};
+ghost use lib.ListN.{length, replicate};
+ghost use Rattle.device.specs.SetUp.{freshHub};
+ghost use Rattle.device.specs.Sizes.{maxPeers};
+ghost use Rattle.device.specs.World.{withSlot, resetSlot};
+ghost use Rattle.words.specs.Layout.{hubWords, hubOf, Storable};
+
+// A peer's registers and entries at their reset values, connected (1) or not (0).
+pub fn put_reset(hub: &mut [u32], i: usize, connected: u32)
+    requires room { ⌜ length (now hub) ≡ hubWords ⌝ }
+    requires known { ⌜ i < maxPeers ⌝ }
+    ensures { λ r. ⌜ hubOf (now (hub .exit)) ≡ withSlot (hubOf (now (hub .entry))) i (resetSlot connected) ⌝ }
+{
+    super::put_peer(hub, i, Peer::reset(connected));
+    let vectors = device::max_vectors();
+    let mut v = 0;
+    while v < vectors {
+        super::put_entry(hub, i, v, Entry::reset());
+        v += 1;
+    }
+}
+
+// A hub with these settings and nobody connected.
+pub fn put_fresh(hub: &mut [u32], s: Settings)
+    requires room { ⌜ length (now hub) ≡ hubWords ⌝ }
+    requires small { ⌜ Storable s ⌝ }
+    ensures { λ r. ⌜ hubOf (now (hub .exit)) ≡ freshHub s ⌝ }
+{
+    super::put_settings(hub, s);
+    let peers = device::max_peers();
+    let mut i = 0;
+    while i < peers {
+        put_reset(hub, i, 0);
+        i += 1;
+    }
+}
+
+// All words zero, whatever their number.
+pub fn put_zero(hub: &mut [u32])
+    ensures { λ r. ⌜ now (hub .exit) ≡ replicate (length (now (hub .entry))) 0 ⌝ }
+{
+    let mut k = 0;
+    while k < hub.len() {
+        hub[k] = 0;
+        k += 1;
+    }
+}
