@@ -1,7 +1,7 @@
 -- 'Configuration space (256 bytes, little-endian)'.
 use Prim.Native.Nat.{ℕ, zero, suc, _+_, _-_, _*_, _/_, _%_}
 use mathlib.Core.Bool.{Bool, true, false, cond, _&&_}
-use mathlib.Core.List.{List, [], _∷_}
+use mathlib.Core.List.{List, [], _∷_, _++_}
 use lib.Dec.{eqb, leb, ltb}
 use Rattle.common.specs.Bytes.{byte, number, setByte, merge}
 use Rattle.device.specs.declared.Peer.{Peer}
@@ -16,9 +16,10 @@ pub record Field : Type 0 where
 abbrev pub field : ℕ → ℕ → ℕ → Field
 field start size content = record { start = start; size = size; content = content }
 
--- The table 'At, Content'. Message Control is given as its two bytes: V - 1 fits the low one.
-unfoldable pub fields : Settings → Peer → List Field
-fields s p =
+-- The table 'At, Content', in three parts: the header's registers, the vendor-specific capability at 40h and the MSI-X capability
+-- at 60h.
+abbrev pub headerFields : Settings → Peer → List Field
+headerFields s p =
     field 0x00 2 0x110A
     ∷ field 0x02 2 0x4106
     ∷ field 0x04 2 (p .command)
@@ -31,7 +32,11 @@ fields s p =
     ∷ field 0x2C 2 (s .vendor)
     ∷ field 0x2E 2 (s .subsystem)
     ∷ field 0x34 1 0x40
-    ∷ field 0x40 1 0x09
+    ∷ []
+
+abbrev pub vendorFields : Settings → Peer → List Field
+vendorFields s p =
+    field 0x40 1 0x09
     ∷ field 0x41 1 0x60
     ∷ field 0x42 1 0x20
     ∷ field 0x43 1 (p .privileged)
@@ -39,13 +44,21 @@ fields s p =
     ∷ field 0x48 8 (s .common)
     ∷ field 0x50 8 (s .output)
     ∷ field 0x58 8 (s .base)
-    ∷ field 0x60 1 0x11
+    ∷ []
+
+-- Message Control is given as its two bytes: V - 1 fits the low one
+abbrev pub msixFields : Settings → Peer → List Field
+msixFields s p =
+    field 0x60 1 0x11
     ∷ field 0x61 1 0x00
     ∷ field 0x62 1 (s .vectors - 1)
     ∷ field 0x63 1 (p .message)
     ∷ field 0x64 4 0x00000001
     ∷ field 0x68 4 0x00000801
     ∷ []
+
+unfoldable pub fields : Settings → Peer → List Field
+fields s p = headerFields s p ++ (vendorFields s p ++ msixFields s p)
 
 -- an offset is one of the `size` from `start`
 abbrev pub within : ℕ → ℕ → ℕ → Bool

@@ -1,0 +1,44 @@
+// The register region: what a read gives.
+use device::{Peer, Settings};
+
+ghost use mathlib.Core.Path.{_≡_};
+ghost use Prim.Native.Nat.{_<_, _^_};
+ghost use Rattle.device.specs.Registers.{memoryOn, registerAt, registerValue, registerRead, unmapped};
+
+// What the register region and the MSI-X region read while Command bit 1 is off.
+pub const UNMAPPED: u64 = 0xFFFFFFFF;
+
+// Command bit 1, Memory Space.
+pub fn memory_on(p: Peer) -> bool
+    ensures { λ r. ⌜ r ≡ memoryOn p ⌝ }
+{
+    p.command / 2 % 2 == 1
+}
+
+fn value(s: Settings, who: u64, p: Peer, at: u64) -> u64
+    requires { ⌜ (who < 2 ^ 32) × (s .peers < 2 ^ 32) ⌝ }
+    ensures is { λ r. ⌜ r ≡ registerValue s who p (registerAt at) ⌝ }
+    ensures fits { λ r. ⌜ r < 2 ^ 32 ⌝ }
+{
+    match at {
+        0x00 => who,
+        0x04 => s.peers,
+        0x08 => p.interrupt as u64,
+        0x0C => 0,
+        0x10 => p.state as u64,
+        _ => 0,
+    }
+}
+
+pub fn read(s: Settings, who: u64, p: Peer, at: u64) -> u64
+    requires { ⌜ (who < 2 ^ 32) × (s .peers < 2 ^ 32) ⌝ }
+    ensures is { λ r. ⌜ r ≡ registerRead s who p at ⌝ }
+    ensures fits { λ r. ⌜ r < 2 ^ 32 ⌝ }
+{
+    let on = memory_on(p);
+    if on {
+        value(s, who, p, at)
+    } else {
+        UNMAPPED
+    }
+}
