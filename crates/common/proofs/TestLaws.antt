@@ -6,7 +6,8 @@ use mathlib.Core.List.{List, [], _∷_}
 use native.Mathlib.Omega.{arith}
 use lib.Dec.{leb, ltb}
 use borrow.Author.Tests.{leb-true, ltb-true}
-use Rattle.common.specs.Tests.{below}
+use lib.ListN.{length, getD}
+use Rattle.common.specs.Tests.{Row, first, everyAfter, every, below}
 
 pub and-left : (a b : Bool) → a && b ≡ true → a ≡ true
 and-left true b e = refl
@@ -27,3 +28,30 @@ first-le a b t e = leb-true a b (and-left (leb a b) t e)
 
 pub second-lt : (t : Bool) (a b : ℕ) → t && ltb a b ≡ true → a < b
 second-lt t a b e = ltb-true a b (and-right t (ltb a b) e)
+
+-- One false test makes the whole false, and where the whole is true each test is.
+stays-false : (bs : List Bool) → everyAfter false bs ≡ false
+stays-false [] = refl
+stays-false (b ∷ bs) = stays-false bs
+
+after-false : (ok : Bool) (bs : List Bool) (k : ℕ) → getD bs k true ≡ false → everyAfter ok bs ≡ false
+after-false ok [] k e = let z : _≡_ {A = ℕ} 0 1 = cc in absurd (omega arith)
+after-false true (b ∷ bs) zero e = rw e (stays-false bs)
+after-false false (b ∷ bs) zero e = stays-false bs
+after-false true (b ∷ bs) (suc k) e = after-false b bs k e
+after-false false (b ∷ bs) (suc k) e = stays-false bs
+
+pub every-false : (bs : List Bool) (k : ℕ) → getD bs k true ≡ false → every bs ≡ false
+unfolding every
+every-false bs k e = after-false true bs k e
+
+pub every-true : (bs : List Bool) → every bs ≡ true → (k : ℕ) → getD bs k true ≡ true
+every-true bs e k = by (getD bs k true) refl
+  where
+    by : (b : Bool) → getD bs k true ≡ b → getD bs k true ≡ true
+    by true f = f
+    by false f = let z : false ≡ true = sym (every-false bs k f) ∙ e in f ∙ z
+
+pub and-false : (a b : Bool) → b ≡ false → (a && b) ≡ false
+and-false true b e = e
+and-false false b e = refl

@@ -1,0 +1,9 @@
+// Refusal 10: the hub handed in is sound. The tests of a slot's parts, then of the whole hub.
+mod parts;
+mod setup;
+
+pub use parts::entry_sound;
+pub use parts::in_use;
+pub use parts::peer_sound;
+pub use setup::accepted;
+pub use setup::total;
