@@ -61,10 +61,13 @@ storing offset n = store offset (replicate n 0)
 
 pub cases : List Case
 cases =
-    -- '4 bytes at 00h give 4106110Ah; at 08h FF000100h; at 40h 00206009h; at 60h 00030011h'
+    -- '4 bytes at 00h give 4106110Ah'
     case (answer fresh 0 (configurationRead 0x00 4)) (0 ∷ 0x4106110A ∷ [])
+    -- 'at 08h FF000100h'
     ∷ case (answer fresh 0 (configurationRead 0x08 4)) (0 ∷ 0xFF000100 ∷ [])
+    -- 'at 40h 00206009h'
     ∷ case (answer fresh 0 (configurationRead 0x40 4)) (0 ∷ 0x00206009 ∷ [])
+    -- 'at 60h 00030011h'
     ∷ case (answer fresh 0 (configurationRead 0x60 4)) (0 ∷ 0x00030011 ∷ [])
     -- 'Write FFFFh at 04h: 4 bytes at 04h read 00100406h'
     ∷ case (answer (after fresh 0 (configurationWrite 0x04 2 0xFFFF)) 0 (configurationRead 0x04 4)) (0 ∷ 0x00100406 ∷ [])
@@ -72,18 +75,23 @@ cases =
     ∷ case (answer (after fresh 0 (configurationWrite 0x10 4 0xFFFFFFFF)) 0 (configurationRead 0x10 4)) (0 ∷ 0xFFFFF000 ∷ [])
     -- 'Write FFFFFFFFh at 60h: reads C0030011h'
     ∷ case (answer (after fresh 0 (configurationWrite 0x60 4 0xFFFFFFFF)) 0 (configurationRead 0x60 4)) (0 ∷ 0xC0030011 ∷ [])
-    -- 'Register read at 04h with Command 0: FFFFFFFFh; with 0002h: 4'
+    -- 'Register read at 04h with Command 0: FFFFFFFFh'
     ∷ case (answer fresh 0 (registerRead 0x04 4)) (0 ∷ 0xFFFFFFFF ∷ [])
+    -- 'with 0002h: 4'
     ∷ case (answer (after fresh 0 (configurationWrite 0x04 2 0x0002)) 0 (registerRead 0x04 4)) (0 ∷ 4 ∷ [])
     -- 'Doorbell 00030001h means vector 1 at id 3'
     ∷ case (rungVector 0x00030001 .0 ∷ rungPeer 0x00030001 .0 ∷ []) (1 ∷ 3 ∷ [])
-    -- 'store by 1 at 8192, length 4096: taken', 'The same by 0: 9', 'Offset 8191, length 2: 8', 'Length 0: 6'
+    -- 'store by 1 at 8192, length 4096: taken'
     ∷ case (answer pair 1 (storing 8192 4096)) (0 ∷ 0 ∷ [])
+    -- 'The same by 0: 9'
     ∷ case (answer pair 0 (storing 8192 4096)) (9 ∷ 0 ∷ [])
+    -- 'Offset 8191, length 2: 8'
     ∷ case (answer pair 1 (storing 8191 2)) (8 ∷ 0 ∷ [])
+    -- 'Length 0: 6'
     ∷ case (answer pair 1 (storing 8192 0)) (6 ∷ 0 ∷ [])
     ∷ []
 
+-- each case, by computation
 pub bench : map (λ (c : Case). c .gives) cases ≡ map (λ (c : Case). c .says) cases
 unfolding cases bytes number setByte first every below Configuration.configurationRead fields fieldByte configurationByte masks maskIn maskAt maskOf withByte writtenByte configurationWritten effect lentTo accessOf wrongRegion shortTable missing present wrongWidth misaligned outside forbidden isConnected refusal Registers.registerRead registerAt memoryOn registerValue outputs sections sectionIn sectionOf somewhere mayStore total accepted freshHub maxPeers maxVectors peerFixed peerReset entryFixed entryReset inUse vectorsInUse peerSound entrySound slotSound sound run runAll stepBy step zeroSlot resetSlot
 bench = refl
