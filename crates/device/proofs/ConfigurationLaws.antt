@@ -6,7 +6,7 @@ use mathlib.Core.List.{List, [], _∷_, _++_}
 use mathlib.Core.Path.{_≡_, refl, sym, ap, ap₂, subst, fun-ext, _∙_}
 use native.Mathlib.Nat.{add-zero}
 use native.Mathlib.Omega.{arith}
-use borrow.Author.Tests.{eqb-true, eqb-false, leb-true, ltb-true, eq-eqb, ne-eqb, le-leb, lt-leb, lt-ltb, le-ltb}
+use borrow.Author.Tests.{eqb-true, eqb-false, leb-true, ltb-true, eq-eqb, ne-eqb, le-leb, lt-ltb}
 use lib.Dec.{eqb, leb, ltb}
 use lib.ListN.{replicate}
 use lib.Pow.{pow-add}
@@ -16,8 +16,9 @@ use Rattle.common.proofs.ByteLaws.{byte-suc, byte-zero, byte-setByte-same, byte
 use Rattle.common.proofs.TestLaws.{and-left, and-right}
 use Rattle.device.specs.declared.Peer.{Peer}
 use Rattle.device.specs.declared.Settings.{Settings}
-use Rattle.device.specs.Configuration.{Field, fieldByte, fields, within, configurationByte, configurationRead, Mask, masks, maskIn, maskAt, withByte, writtenByte, configurationWritten}
+use Rattle.device.specs.Configuration.{Field, fieldByte, fields, within, configurationByte, configurationRead, masks, maskIn, maskAt, withByte, writtenByte, configurationWritten}
 
+infixr 5 _and_
 -- Reads.
 
 cond-small : (t : Bool) (x y : ℕ) → x < 256 → y < 256 → cond t x y < 256
@@ -89,6 +90,10 @@ abbrev Each : (ℕ → Type 0) → List ℕ → Type 0
 Each P [] = Unit {0}
 Each P (k ∷ ks) = P k × Each P ks
 
+-- proofs for the offsets of a list, one to a line
+_and_ : {A B : Type 0} → A → B → A × B
+a and b = (a, b)
+
 abbrev NoneOf : ℕ → List ℕ → Type 0
 NoneOf o [] = Unit {0}
 NoneOf o (k ∷ ks) = (eqb o k ≡ false) × NoneOf o ks
@@ -108,14 +113,15 @@ mask-other : (s : Settings) (o : ℕ) → NoneOf o kept → maskAt s o ≡ 0
 unfolding maskAt masks maskIn
 mask-other s o (n04, (n05, (n10, (n11, (n12, (n13, (n14, (n15, (n16, (n17, (n43, (n63, _)))))))))))) = rw (n04, n05, n11, n15, n12, n13, n16, n17, n43, n63)
 
+outside-word : (k o : ℕ) → eqb o k ≡ false → eqb o (k + 1) ≡ false → eqb o (k + 2) ≡ false → eqb o (k + 3) ≡ false → within k 4 o ≡ false
+outside-word k o n0 n1 n2 n3 = within-false k 4 o (λ l h. omega (arith, eqb-false))
+
 byte-other : (s : Settings) (p q : Peer) (o : ℕ) → NoneOf o kept → configurationByte s p o ≡ configurationByte s q o
 unfolding configurationByte fieldByte fields
 byte-other s p q o (n04, (n05, (n10, (n11, (n12, (n13, (n14, (n15, (n16, (n17, (n43, (n63, _)))))))))))) =
     let command : within 0x04 2 o ≡ false = within-false 0x04 2 o (λ l h. omega (arith, eqb-false o 0x04 n04, eqb-false o 0x05 n05)) in
-    let bar0 : within 0x10 4 o ≡ false =
-    within-false 0x10 4 o (λ l h. omega (arith, eqb-false o 0x10 n10, eqb-false o 0x11 n11, eqb-false o 0x12 n12, eqb-false o 0x13 n13)) in
-    let bar1 : within 0x14 4 o ≡ false =
-    within-false 0x14 4 o (λ l h. omega (arith, eqb-false o 0x14 n14, eqb-false o 0x15 n15, eqb-false o 0x16 n16, eqb-false o 0x17 n17)) in
+    let bar0 : within 0x10 4 o ≡ false = outside-word 0x10 o n10 n11 n12 n13 in
+    let bar1 : within 0x14 4 o ≡ false = outside-word 0x14 o n14 n15 n16 n17 in
     let privileged : within 0x43 1 o ≡ false = within-false 0x43 1 o (λ l h. omega (arith, eqb-false o 0x43 n43)) in
     let message : within 0x63 1 o ≡ false = within-false 0x63 1 o (λ l h. omega (arith, eqb-false o 0x63 n63)) in
     rw (command, bar0, bar1, privileged, message)
@@ -177,40 +183,20 @@ unfolding configurationByte fieldByte fields withByte
 written-byte-reads s p at b o h = by-offset (λ k. Reads s p at b k) kept each o (λ n. other-reads s p at b o n)
   where
     each : Each (λ k. Reads s p at b k) kept
-    each = (
-      kept-reads s p at b 0x04 (λ c hc. word-byte 0x04 2 0 at c (p .command) (omega arith) (omega arith) hc),
-      (
-        kept-reads s p at b 0x05 (λ c hc. word-byte 0x04 2 1 at c (p .command) (omega arith) (omega arith) hc),
-        (
-          kept-reads s p at b 0x10 (λ c hc. word-byte 0x10 4 0 at c (p .bar0) (omega arith) (omega arith) hc),
-          (
-            kept-reads s p at b 0x11 (λ c hc. word-byte 0x10 4 1 at c (p .bar0) (omega arith) (omega arith) hc),
-            (
-              kept-reads s p at b 0x12 (λ c hc. word-byte 0x10 4 2 at c (p .bar0) (omega arith) (omega arith) hc),
-              (
-                kept-reads s p at b 0x13 (λ c hc. word-byte 0x10 4 3 at c (p .bar0) (omega arith) (omega arith) hc),
-                (
-                  kept-reads s p at b 0x14 (λ c hc. word-byte 0x14 4 0 at c (p .bar1) (omega arith) (omega arith) hc),
-                  (
-                    kept-reads s p at b 0x15 (λ c hc. word-byte 0x14 4 1 at c (p .bar1) (omega arith) (omega arith) hc),
-                    (
-                      kept-reads s p at b 0x16 (λ c hc. word-byte 0x14 4 2 at c (p .bar1) (omega arith) (omega arith) hc),
-                      (
-                        kept-reads s p at b 0x17 (λ c hc. word-byte 0x14 4 3 at c (p .bar1) (omega arith) (omega arith) hc),
-                        (
-                          kept-reads s p at b 0x43 (λ c hc. single-byte 0x43 at c (p .privileged) hc),
-                          (kept-reads s p at b 0x63 (λ c hc. single-byte 0x63 at c (p .message) hc), tt),
-                        ),
-                      ),
-                    ),
-                  ),
-                ),
-              ),
-            ),
-          ),
-        ),
-      ),
-    )
+    each =
+        kept-reads s p at b 0x04 (λ c hc. word-byte 0x04 2 0 at c (p .command) (omega arith) (omega arith) hc)
+        and kept-reads s p at b 0x05 (λ c hc. word-byte 0x04 2 1 at c (p .command) (omega arith) (omega arith) hc)
+        and kept-reads s p at b 0x10 (λ c hc. word-byte 0x10 4 0 at c (p .bar0) (omega arith) (omega arith) hc)
+        and kept-reads s p at b 0x11 (λ c hc. word-byte 0x10 4 1 at c (p .bar0) (omega arith) (omega arith) hc)
+        and kept-reads s p at b 0x12 (λ c hc. word-byte 0x10 4 2 at c (p .bar0) (omega arith) (omega arith) hc)
+        and kept-reads s p at b 0x13 (λ c hc. word-byte 0x10 4 3 at c (p .bar0) (omega arith) (omega arith) hc)
+        and kept-reads s p at b 0x14 (λ c hc. word-byte 0x14 4 0 at c (p .bar1) (omega arith) (omega arith) hc)
+        and kept-reads s p at b 0x15 (λ c hc. word-byte 0x14 4 1 at c (p .bar1) (omega arith) (omega arith) hc)
+        and kept-reads s p at b 0x16 (λ c hc. word-byte 0x14 4 2 at c (p .bar1) (omega arith) (omega arith) hc)
+        and kept-reads s p at b 0x17 (λ c hc. word-byte 0x14 4 3 at c (p .bar1) (omega arith) (omega arith) hc)
+        and kept-reads s p at b 0x43 (λ c hc. single-byte 0x43 at c (p .privileged) hc)
+        and kept-reads s p at b 0x63 (λ c hc. single-byte 0x63 at c (p .message) hc)
+        and tt
 
 -- a write of one byte, then of the rest, is the write of all
 one-more : (m x value at w o : ℕ)

@@ -2,7 +2,7 @@
 -- leaves the world as it was and delivers nothing, and only reads of registers give a value.
 use Prim.Native.Nat.{ℕ, zero, suc}
 use mathlib.Core.Bool.{Bool, true, false}
-use mathlib.Core.List.{List, [], _∷_}
+use mathlib.Core.List.{List, []}
 use mathlib.Core.Path.{_≡_, refl, sym, ap}
 use native.Mathlib.Omega.{arith}
 use Rattle.device.specs.declared.Settings.{Settings}
@@ -10,7 +10,7 @@ use Rattle.device.specs.Call.{Act, Call}
 use Rattle.device.specs.Call.Act.{connect, disconnect, reset, configurationRead, configurationWrite, registerRead, registerWrite, msixRead, msixWrite, question, load, store}
 use Rattle.device.specs.Effect.{effect, Operation}
 use Rattle.device.specs.Refusal.{refusal}
-use Rattle.device.specs.Step.{Ran, ran, runAll, Outcome, refused, done, effectIn, stepBy, step}
+use Rattle.device.specs.Step.{runAll, refused, done, effectIn, stepBy, step}
 use Rattle.device.specs.World.{Slot, World}
 
 refused-by : (n : ℕ) (w : World) (c : Call) → (n ≡ 0 → ⊥) → stepBy n w c ≡ refused n w
