@@ -68,7 +68,11 @@ rungVector value = vector (value % 2 ^ 16)
 abbrev pub rungPeer : ℕ → PeerId
 rungPeer value = peerId (value / 2 ^ 16 % 2 ^ 16)
 
--- a store to a register; 'stores there and to 00 and 04 do nothing'. A value is 32 bits, and Interrupt Control has bit 0 only.
+-- the 32 bits that State takes
+abbrev pub stateValue : ℕ → ℕ
+stateValue value = bitAnd value 0xFFFFFFFF
+
+-- a store to a register; 'stores there and to 00 and 04 do nothing'. Interrupt Control has bit 0 only.
 unfoldable pub registerStored : ℕ → Slot → Register → ℕ → List Operation
 registerStored who slot Register.identity value = []
 registerStored who slot Register.maximumPeers value = []
@@ -76,7 +80,7 @@ registerStored who slot Register.interruptControl value =
     Operation.own (withPeer slot (withInterrupt (slot .peer) (bitAnd value 1))) ∷ []
 registerStored who slot Register.doorbell value = Operation.ringOne (rungPeer value) (rungVector value) ∷ []
 registerStored who slot Register.state value =
-    announces who (withPeer slot (withState (slot .peer) (bitAnd value 0xFFFFFFFF)))
+    announces who (withPeer slot (withState (slot .peer) (stateValue value)))
 registerStored who slot Register.none value = []
 
 unfoldable pub effect : Settings → ℕ → Slot → List ℕ → Act → Effect

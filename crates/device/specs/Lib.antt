@@ -13,3 +13,5 @@ pub mod Sections
 pub mod Refusal
 pub mod Effect
 pub mod Step
+pub mod History
+pub mod Window

@@ -24,9 +24,11 @@ inTable s at = ltb (vectorAt at) (s .vectors)
 unfoldable pub entryWord : Entry → ℕ → ℕ
 entryWord e k = cond (eqb k 0) (e .low) (cond (eqb k 1) (e .high) (cond (eqb k 2) (e .payload) (e .control)))
 
+unfoldable pub tableWord : Settings → Slot → ℕ → ℕ
+tableWord s slot at = cond (inTable s at) (entryWord (entryAt slot (vectorAt at)) (wordAt at)) 0
+
 unfoldable pub msixRead : Settings → Slot → ℕ → ℕ
-msixRead s slot at =
-    cond (memoryOn (slot .peer)) (cond (inTable s at) (entryWord (entryAt slot (vectorAt at)) (wordAt at)) 0) unmapped
+msixRead s slot at = cond (memoryOn (slot .peer)) (tableWord s slot at) unmapped
 
 -- 'bits 0-1 fixed 0', 'bit 0 mask, the rest fixed 0'
 abbrev pub addressMask : ℕ
