@@ -4,8 +4,8 @@ use native.Mathlib.Omega.{arith}
 use lib.Dec.{leb}
 use borrow.Author.Needs.{needs}
 use Rattle.common.proofs.TestLaws.{first-le, second-lt}
-use Rattle.configuration.proofs.field.Statement.{statement}
-use Rattle.configuration.proofs.field.Tie as tie
+use Rattle.configuration.proofs.reading.field.Statement.{statement}
+use Rattle.configuration.proofs.reading.field.Tie as tie
 
 add-held : tie.Need-add-held
 add-held c = search needs

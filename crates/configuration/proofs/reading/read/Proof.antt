@@ -8,8 +8,9 @@ use lib.Pow.{pow-mono}
 use Rattle.device.specs.declared.Peer.{Peer}
 use Rattle.device.specs.declared.Settings.{Settings}
 use Rattle.device.specs.Configuration.{configurationByte, configurationRead}
-use Rattle.configuration.proofs.read.Statement.{statement}
-use Rattle.configuration.proofs.read.Tie as tie
+use Rattle.device.proofs.ConfigurationLaws.{read-small}
+use Rattle.configuration.proofs.reading.read.Statement.{statement}
+use Rattle.configuration.proofs.reading.read.Tie as tie
 
 abbrev Inv-loop : tie.InvT-loop
 Inv-loop s p at width left₀ value₀ left value =
@@ -27,9 +28,6 @@ one-more s p at left width h k =
     let e : width - (left - 1) ≡ suc (width - left) = omega arith in
     let f : at + left ≡ suc (at + (left - 1)) = omega arith in
     rw (e, f)
-
-read-small : (s : Settings) (p : Peer) (at w : ℕ) → configurationRead s p at w < 2 ^ (8 * w)
-read-small s p at w = ?
 
 -- four bytes at the most
 small : (s : Settings) (p : Peer) (at n : ℕ) → n ≤ 4 → configurationRead s p at n < 2 ^ 32

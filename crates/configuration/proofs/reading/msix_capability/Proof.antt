@@ -1,45 +1,32 @@
 use Rattle.configuration.specs.Parts.{fieldByteOr}
 use borrow.Author.Needs.{needs}
-use Rattle.configuration.proofs.msix_capability.Statement.{statement}
-use Rattle.configuration.proofs.msix_capability.Tie as tie
-use Rattle.configuration.proofs.msix_capability.Reads as reads
-use Rattle.configuration.proofs.msix_capability.Lts as lts
-use Rattle.configuration.proofs.field.Reads as field-reads
-use Rattle.configuration.proofs.table_size.Reads as table-size-reads
+use Rattle.configuration.proofs.reading.msix_capability.Statement.{statement}
+use Rattle.configuration.proofs.reading.msix_capability.Tie as tie
 
--- src/lib.rt:75:9
 table-size-requires : tie.Need-table-size-requires
 table-size-requires c κs = search needs
 
--- src/lib.rt:76:9
 field-requires : tie.Need-field-requires
 field-requires c κs = search needs
 
--- src/lib.rt:77:9
 field-requires-2 : tie.Need-field-requires-2
 field-requires-2 c κs = search needs
 
--- src/lib.rt:78:32
 cast-field : tie.Need-cast-field
 cast-field c = search needs
 
--- src/lib.rt:78:9
 field-requires-3 : tie.Need-field-requires-3
 field-requires-3 c κs = search needs
 
--- src/lib.rt:79:9
 field-requires-4 : tie.Need-field-requires-4
 field-requires-4 c κs = search needs
 
--- src/lib.rt:80:9
 field-requires-5 : tie.Need-field-requires-5
 field-requires-5 c κs = search needs
 
--- src/lib.rt:81:5
 field-requires-6 : tie.Need-field-requires-6
 field-requires-6 c κs = search needs
 
--- src/lib.rt:70:1
 returns : tie.Need-returns
 unfolding fieldByteOr
 returns c = (rw (c .field6 .ensures .0, c .before .field5 .ensures .0, c .before .before .field4 .ensures .0, c .before .before .before .field3 .ensures .0, c .before .before .before .before .before .field2 .ensures .0, c .before .before .before .before .before .before .field .ensures .0, c .before .before .before .before .before .before .before .table-size .ensures), c .field6 .ensures .1)

@@ -1,48 +1,35 @@
 use Rattle.configuration.specs.Parts.{fieldByteOr}
 use borrow.Author.Needs.{needs}
-use Rattle.configuration.proofs.vendor_capability.Statement.{statement}
-use Rattle.configuration.proofs.vendor_capability.Tie as tie
-use Rattle.configuration.proofs.vendor_capability.Reads as reads
-use Rattle.configuration.proofs.vendor_capability.Lts as lts
-use Rattle.configuration.proofs.field.Reads as field-reads
+use Rattle.configuration.proofs.reading.vendor_capability.Statement.{statement}
+use Rattle.configuration.proofs.reading.vendor_capability.Tie as tie
 
--- src/lib.rt:50:9
 field-requires : tie.Need-field-requires
 field-requires c κs = search needs
 
--- src/lib.rt:51:9
 field-requires-2 : tie.Need-field-requires-2
 field-requires-2 c κs = search needs
 
--- src/lib.rt:52:9
 field-requires-3 : tie.Need-field-requires-3
 field-requires-3 c κs = search needs
 
--- src/lib.rt:53:9
 field-requires-4 : tie.Need-field-requires-4
 field-requires-4 c κs = search needs
 
--- src/lib.rt:54:32
 cast-field : tie.Need-cast-field
 cast-field c = search needs
 
--- src/lib.rt:54:9
 field-requires-5 : tie.Need-field-requires-5
 field-requires-5 c κs = search needs
 
--- src/lib.rt:55:9
 field-requires-6 : tie.Need-field-requires-6
 field-requires-6 c κs = search needs
 
--- src/lib.rt:56:9
 field-requires-7 : tie.Need-field-requires-7
 field-requires-7 c κs = search needs
 
--- src/lib.rt:57:5
 field-requires-8 : tie.Need-field-requires-8
 field-requires-8 c κs = search needs
 
--- src/lib.rt:45:1
 returns : tie.Need-returns
 unfolding fieldByteOr
 returns c = (rw (c .field8 .ensures .0, c .before .field7 .ensures .0, c .before .before .field6 .ensures .0, c .before .before .before .field5 .ensures .0, c .before .before .before .before .before .field4 .ensures .0, c .before .before .before .before .before .before .field3 .ensures .0, c .before .before .before .before .before .before .before .field2 .ensures .0, c .before .before .before .before .before .before .before .before .field .ensures .0), c .field8 .ensures .1)

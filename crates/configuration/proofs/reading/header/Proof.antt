@@ -1,72 +1,53 @@
 use Rattle.configuration.specs.Parts.{fieldByteOr}
 use borrow.Author.Needs.{needs}
-use Rattle.configuration.proofs.header.Statement.{statement}
-use Rattle.configuration.proofs.header.Tie as tie
-use Rattle.configuration.proofs.header.Reads as reads
-use Rattle.configuration.proofs.header.Lts as lts
-use Rattle.configuration.proofs.field.Reads as field-reads
+use Rattle.configuration.proofs.reading.header.Statement.{statement}
+use Rattle.configuration.proofs.reading.header.Tie as tie
 
--- src/lib.rt:31:9
 field-requires : tie.Need-field-requires
 field-requires c κs = search needs
 
--- src/lib.rt:32:9
 field-requires-2 : tie.Need-field-requires-2
 field-requires-2 c κs = search needs
 
--- src/lib.rt:33:9
 field-requires-3 : tie.Need-field-requires-3
 field-requires-3 c κs = search needs
 
--- src/lib.rt:34:32
 cast-field : tie.Need-cast-field
 cast-field c = search needs
 
--- src/lib.rt:34:9
 field-requires-4 : tie.Need-field-requires-4
 field-requires-4 c κs = search needs
 
--- src/lib.rt:35:32
 cast-field-2 : tie.Need-cast-field-2
 cast-field-2 c = search needs
 
--- src/lib.rt:35:9
 field-requires-5 : tie.Need-field-requires-5
 field-requires-5 c κs = search needs
 
--- src/lib.rt:36:9
 field-requires-6 : tie.Need-field-requires-6
 field-requires-6 c κs = search needs
 
--- src/lib.rt:37:9
 field-requires-7 : tie.Need-field-requires-7
 field-requires-7 c κs = search needs
 
--- src/lib.rt:38:9
 field-requires-8 : tie.Need-field-requires-8
 field-requires-8 c κs = search needs
 
--- src/lib.rt:39:9
 field-requires-9 : tie.Need-field-requires-9
 field-requires-9 c κs = search needs
 
--- src/lib.rt:40:32
 cast-field-3 : tie.Need-cast-field-3
 cast-field-3 c = search needs
 
--- src/lib.rt:40:9
 field-requires-10 : tie.Need-field-requires-10
 field-requires-10 c κs = search needs
 
--- src/lib.rt:41:9
 field-requires-11 : tie.Need-field-requires-11
 field-requires-11 c κs = search needs
 
--- src/lib.rt:42:5
 field-requires-12 : tie.Need-field-requires-12
 field-requires-12 c κs = search needs
 
--- src/lib.rt:26:1
 returns : tie.Need-returns
 unfolding fieldByteOr
 returns c = (rw (c .field12 .ensures .0, c .before .field11 .ensures .0, c .before .before .field10 .ensures .0, c .before .before .before .before .field9 .ensures .0, c .before .before .before .before .before .field8 .ensures .0, c .before .before .before .before .before .before .field7 .ensures .0, c .before .before .before .before .before .before .before .field6 .ensures .0, c .before .before .before .before .before .before .before .before .field5 .ensures .0, c .before .before .before .before .before .before .before .before .before .before .field4 .ensures .0, c .before .before .before .before .before .before .before .before .before .before .before .before .field3 .ensures .0, c .before .before .before .before .before .before .before .before .before .before .before .before .before .field2 .ensures .0, c .before .before .before .before .before .before .before .before .before .before .before .before .before .before .field .ensures .0), c .field12 .ensures .1)
