@@ -62,15 +62,6 @@ fn replaced(at: u64, start: u64, size: u64, b: u64, x: u32) -> u32
     }
 }
 
-fn choose(first: bool, a: u32, b: u32) -> u32
-    ensures { λ r. ⌜ r ≡ cond first a b ⌝ }
-{
-    if first {
-        return a;
-    }
-    b
-}
-
 fn with_byte(p: Peer, at: u64, b: u64) -> Peer
     requires { ⌜ b < 256 ⌝ }
     ensures { λ r. ⌜ r ≡ withByte p at b ⌝ }
@@ -80,8 +71,8 @@ fn with_byte(p: Peer, at: u64, b: u64) -> Peer
         command: replaced(at, 0x04, 2, b, p.command),
         bar0: replaced(at, 0x10, 4, b, p.bar0),
         bar1: replaced(at, 0x14, 4, b, p.bar1),
-        privileged: choose(at == 0x43, b as u32, p.privileged),
-        message: choose(at == 0x63, b as u32, p.message),
+        privileged: common::choose(at == 0x43, b as u32, p.privileged),
+        message: common::choose(at == 0x63, b as u32, p.message),
         interrupt: p.interrupt,
         state: p.state,
     }

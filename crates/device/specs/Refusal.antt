@@ -5,7 +5,7 @@ use mathlib.Core.Bool.{Bool, true, false, not, _&&_, _||_}
 use mathlib.Core.List.{List, [], _∷_}
 use lib.Dec.{eqb, leb, ltb}
 use lib.ListN.{length}
-use Rattle.common.specs.Tests.{row, first}
+use Rattle.common.specs.Tests.{Row, row, first}
 use Rattle.device.specs.declared.Settings.{Settings}
 use Rattle.device.specs.Call.{Act, Call}
 use Rattle.device.specs.Call.Act.{connect, disconnect, reset, configurationRead, configurationWrite, registerRead, registerWrite, msixRead, msixWrite, question, load, store}
@@ -127,18 +127,21 @@ forbidden s who (Access.storing at n) = not (mayStore who (sectionOf s at n))
 unfoldable pub isConnected : World → ℕ → Bool
 isConnected w who = eqb (slotAt (w .hub) who .peer .connected) 1
 
--- The table, in the order of the checks; 0 where the call is accepted.
+-- The table, in the order of the checks.
+abbrev pub checks : World → ℕ → Lent → Access → List Row
+checks w who lent access =
+    row 10 (not (sound (w .hub)))
+    ∷ row 2 (wrongRegion (w .hub .settings) (w .region) lent)
+    ∷ row 11 (shortTable (w .hub .settings) lent)
+    ∷ row 3 (leb (w .hub .settings .peers) who)
+    ∷ row 4 (missing (isConnected w who) access)
+    ∷ row 5 (present (isConnected w who) access)
+    ∷ row 6 (wrongWidth access)
+    ∷ row 7 (misaligned access)
+    ∷ row 8 (outside (w .hub .settings) access)
+    ∷ row 9 (forbidden (w .hub .settings) who access)
+    ∷ []
+
+-- the number of the first check that fails; 0 where the call is accepted
 unfoldable pub refusal : World → Call → ℕ
-refusal w c =
-    first
-    (row 10 (not (sound (w .hub)))
-    ∷ row 2 (wrongRegion (w .hub .settings) (w .region) (lentTo (c .act)))
-    ∷ row 11 (shortTable (w .hub .settings) (lentTo (c .act)))
-    ∷ row 3 (leb (w .hub .settings .peers) (c .who))
-    ∷ row 4 (missing (isConnected w (c .who)) (accessOf (c .act)))
-    ∷ row 5 (present (isConnected w (c .who)) (accessOf (c .act)))
-    ∷ row 6 (wrongWidth (accessOf (c .act)))
-    ∷ row 7 (misaligned (accessOf (c .act)))
-    ∷ row 8 (outside (w .hub .settings) (accessOf (c .act)))
-    ∷ row 9 (forbidden (w .hub .settings) (c .who) (accessOf (c .act)))
-    ∷ [])
+refusal w c = first (checks w (c .who) (lentTo (c .act)) (accessOf (c .act)))

@@ -1,0 +1,36 @@
+// The switches of a target, and the delivery from an entry.
+use device::{Delivery, Entry, Gate, Peer, PeerId, Vector};
+
+ghost use mathlib.Core.Path.{_≡_};
+ghost use Rattle.device.specs.Ring.{gateOf, opens, deliveryOf};
+
+pub fn gate_of(p: Peer, e: Entry) -> Gate
+    ensures { λ r. ⌜ r ≡ gateOf p e ⌝ }
+{
+    Gate {
+        master: p.command / 4 % 2 == 1,
+        enabled: p.message / 128 % 2 == 1,
+        masked: p.message / 64 % 2 == 1,
+        silenced: e.control / 1 % 2 == 1,
+        interrupt: p.interrupt / 1 % 2 == 1,
+        oneshot: p.privileged / 1 % 2 == 1,
+    }
+}
+
+// Every switch is on: a ring is delivered.
+pub fn opens(g: Gate) -> bool
+    ensures { λ r. ⌜ r ≡ opens g ⌝ }
+{
+    g.master & g.enabled & !g.masked & !g.silenced & g.interrupt
+}
+
+pub fn delivery_of(t: PeerId, v: Vector, e: Entry) -> Delivery
+    ensures { λ r. ⌜ r ≡ deliveryOf t v e ⌝ }
+{
+    Delivery {
+        target: t,
+        vector: v,
+        address: e.low as u64 + 4294967296 * (e.high as u64),
+        payload: e.payload,
+    }
+}
