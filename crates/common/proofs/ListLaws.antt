@@ -34,6 +34,10 @@ module _ {ℓ} {A : Type ℓ} where
   tabulate-ext (suc n) f g same =
       λ t. tabulate-ext n f g (λ i l. same i (omega arith)) t ++ (same n (omega arith) t ∷ [])
 
+  pub tabulate-injective : (n : ℕ) (f g : ℕ → A) → tabulate n f ≡ tabulate n g → (i : ℕ) → i < n → f i ≡ g i
+  tabulate-injective n f g e i h =
+      sym (getD-tabulate n f i (f i) h) ∙ ap (λ (l : List A). getD l i (f i)) e ∙ getD-tabulate n g i (f i) h
+
   pub tabulate-const : (n : ℕ) (a : A) → tabulate n (λ _. a) ≡ replicate n a
   unfolding tabulate
   tabulate-const zero a = refl

@@ -2,6 +2,7 @@
 // hub that the words are.
 mod entries;
 mod header;
+mod parts;
 mod peers;
 mod slots;
 
