@@ -17,8 +17,9 @@ use Rattle.device.specs.declared.Settings.{Settings}
 use Rattle.device.specs.Sizes.{maxPeers, maxVectors}
 use Rattle.device.specs.World.{Hub, Slot, zeroSlot, zeroEntry, zeroHub, slotAt, entryAt, withSlot, withPeer, withEntry}
 use Rattle.words.specs.Layout.{hubWords, word, settingsOf, peerStart, peerOf, entryStart, entryOf, slotOf, decoded, hubOf, withSettings}
-use Rattle.words.specs.Parts.{peerFrom, entryFrom, Copied}
-use Rattle.words.proofs.IndexLaws.{EntryPlace, entry-place, entry-apart, entries-pos}
+use Rattle.words.specs.Parts.{settingsWords, peerFrom, entryFrom, Copied}
+use Rattle.words.proofs.IndexLaws.{EntryPlace, entry-place, entry-apart}
+use Rattle.words.proofs.PartLaws.{copied-at}
 
 -- what stands in words of the right length
 pub hub-decoded : (ws : List ℕ) → length ws ≡ hubWords → hubOf ws ≡ decoded ws
@@ -37,6 +38,20 @@ pub entry-at : (ws : List ℕ) (i v : ℕ) → v < maxVectors → entryAt (slotO
 unfolding slotOf
 entry-at ws i v h = getD-tabulate maxVectors (entryOf ws i) v zeroEntry h
 
+-- what the readers find
+pub peer-read : (ws : List ℕ) (i : ℕ) → length ws ≡ hubWords → i < maxPeers → peerFrom ws (peerStart i) ≡ slotAt (hubOf ws) i .peer
+unfolding slotOf peerOf
+peer-read ws i e hi = sym (ap (λ (s : Slot). s .peer) (slot-at ws i e hi))
+
+pub entry-read : (ws : List ℕ) (i v : ℕ) → length ws ≡ hubWords → i < maxPeers → v < maxVectors
+  → entryFrom ws (entryStart 0 i v) (maxPeers * maxVectors) ≡ entryAt (slotAt (hubOf ws) i) v
+unfolding entryOf
+entry-read ws i v e hi hv =
+    let high : entryStart 0 i v + maxPeers * maxVectors ≡ entryStart 1 i v = omega arith in
+    let payload : entryStart 0 i v + 2 * (maxPeers * maxVectors) ≡ entryStart 2 i v = omega arith in
+    let control : entryStart 0 i v + 3 * (maxPeers * maxVectors) ≡ entryStart 3 i v = omega arith in
+    rw (high, payload, control) (sym (ap (λ (s : Slot). entryAt s v) (slot-at ws i e hi) ∙ entry-at ws i v hv))
+
 pub slots-length : (ws : List ℕ) → length (hubOf ws .slots) ≡ maxPeers
 unfolding hubOf decoded
 slots-length ws = length-tabulate maxPeers _
@@ -47,20 +62,6 @@ entries-length ws i h =
     ap (λ (s : Slot). length (s .entries)) (getD-tabulate maxPeers _ i zeroSlot h) ∙ length-tabulate maxVectors _
 
 -- the words of a part, as a store of the part writes them
-abbrev pub settingsWords : Settings → List ℕ
-settingsWords s =
-    s .peers
-    ∷ s .vectors
-    ∷ s .table
-    ∷ s .common
-    ∷ s .output
-    ∷ s .base % 2 ^ 32
-    ∷ s .base / 2 ^ 32
-    ∷ s .protocol
-    ∷ s .vendor
-    ∷ s .subsystem
-    ∷ []
-
 abbrev pub peerWords : Peer → List ℕ
 peerWords p =
     p .connected ∷ p .command ∷ p .bar0 ∷ p .bar1 ∷ p .privileged ∷ p .message ∷ p .interrupt ∷ p .state ∷ []
@@ -135,9 +136,10 @@ module _ (a b : List ℕ) where
 
   module _ (la : length a ≡ hubWords) (lb : length b ≡ hubWords) where
     -- the settings are stored
-    pub settings-put : (s : Settings) → Copied a b (λ r. r) (settingsWords s) 10 → hubOf b ≡ withSettings (hubOf a) s
+    pub settings-put : (s : Settings) → Copied a b (λ r. 0 + r * 1) (settingsWords s) 10 → hubOf b ≡ withSettings (hubOf a) s
     unfolding decoded tabulate
-    settings-put s copied =
+    settings-put s stored =
+        let copied : Copied a b (λ r. r) (settingsWords s) 10 = copied-at (λ r. omega arith) stored in
         rw (hub-decoded a la, hub-decoded b lb)
         (λ t. record
         { settings =
@@ -156,10 +158,11 @@ module _ (a b : List ℕ) where
         rw (hub-decoded a la, hub-decoded b lb)
         (λ t. record { settings = settings t; slots = set-tabulate maxPeers (slotOf a) (slotOf b) i s h here others t })
 
-    pub peer-put : (i : ℕ) (p : Peer) → i < maxPeers → Copied a b (λ r. peerStart i + r) (peerWords p) 8
+    pub peer-put : (i : ℕ) (p : Peer) → i < maxPeers → Copied a b (λ r. peerStart i + r * 1) (peerWords p) 8
       → hubOf b ≡ withSlot (hubOf a) i (withPeer (slotAt (hubOf a) i) p)
     unfolding slotOf
-    peer-put i p h copied =
+    peer-put i p h stored =
+        let copied : Copied a b (λ r. peerStart i + r) (peerWords p) 8 = copied-at (λ r. omega arith) stored in
         let entries : (j w : ℕ) → w < maxVectors → SameEntry j w = λ j w _ c _. copied .kept _ (omega arith) in
         rw (slot-at a i la h)
         (slot-put i (withPeer (slotOf a i) p) h (settings-same a b (λ k l. copied .kept k (omega arith)))
@@ -168,10 +171,12 @@ module _ (a b : List ℕ) where
         ; entries = tabulate-ext maxVectors (entryOf b i) (entryOf a i) (λ w l. entry-same i w (entries i w l)) t })
         (λ j _ ne. slot-same j (λ r hr. copied .kept _ (omega arith)) (entries j)))
 
-    pub entry-put : (i v : ℕ) (e : Entry) → i < maxPeers → v < maxVectors → Copied a b (λ c. entryStart c i v) (entryWords e) 4
+    pub entry-put : (i v : ℕ) (e : Entry) → i < maxPeers → v < maxVectors
+      → Copied a b (λ c. entryStart 0 i v + c * (maxPeers * maxVectors)) (entryWords e) 4
       → hubOf b ≡ withSlot (hubOf a) i (withEntry (slotAt (hubOf a) i) v e)
     unfolding slotOf
-    entry-put i v e hi hv copied =
+    entry-put i v e hi hv stored =
+        let copied : Copied a b (λ c. entryStart c i v) (entryWords e) 4 = copied-at (λ c. omega arith) stored in
         let peer : (j : ℕ) → j < maxPeers → SamePeer j = λ j hj r hr. copied .kept _ (omega arith) in
         rw (slot-at a i la hi)
         (slot-put i (withEntry (slotOf a i) v e) hi (settings-same a b (λ k l. copied .kept k (omega arith)))

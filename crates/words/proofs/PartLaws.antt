@@ -1,7 +1,7 @@
 -- Laws of specs/Parts.antt: storing one value more, by induction over their number.
 use Prim.Native.Nat.{ℕ, suc, _+_, _*_, _<_}
 use mathlib.Core.Logic.{⊎-elim}
-use mathlib.Core.Path.{_≡_, refl, sym, ap, _∙_}
+use mathlib.Core.Path.{_≡_, refl, subst, fun-ext, _∙_}
 use mathlib.Core.List.{List}
 use native.Mathlib.Nat.{not-suc-le-zero, le-of-suc-le-suc, eq-or-lt-of-le, mul-lt-mul-of-pos-right}
 use native.Mathlib.Numerals.{add-one}
@@ -27,3 +27,9 @@ copied-more a b at step values n pos inside old =
         (λ l. getD-set-other b (at + n * step) (at + r * step) (word values n) 0 (steps-apart at step r n pos l) ∙ old .there r l)
         (eq-or-lt-of-le (le-of-suc-le-suc (rw add-one at h)))
     ; kept = λ k away. getD-set-other b (at + n * step) k (word values n) 0 (away n (omega arith)) ∙ old .kept k (λ r l. away r (omega arith)) }
+
+-- the same places under another name
+pub copied-at : {a b : List ℕ} {place other : ℕ → ℕ} {values : List ℕ} {n : ℕ} → ((r : ℕ) → place r ≡ other r)
+  → Copied a b place values n → Copied a b other values n
+copied-at {a} {b} {place} {other} {values} {n} e copied =
+    subst (λ (p : ℕ → ℕ). Copied a b p values n) (fun-ext e) copied

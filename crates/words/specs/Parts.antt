@@ -1,10 +1,26 @@
 -- What the functions inside this crate promise of a part of the words: several words, each at a place of its own.
-use Prim.Native.Nat.{ℕ, _+_, _*_, _<_}
-use mathlib.Core.List.{List}
+use Prim.Native.Nat.{ℕ, _+_, _*_, _/_, _%_, _^_, _<_}
+use mathlib.Core.List.{List, [], _∷_}
 use mathlib.Core.Path.{_≡_}
 use Rattle.device.specs.declared.Entry.{Entry}
 use Rattle.device.specs.declared.Peer.{Peer}
+use Rattle.device.specs.declared.Settings.{Settings}
 use Rattle.words.specs.Layout.{word}
+
+-- the ten words of the settings
+abbrev pub settingsWords : Settings → List ℕ
+settingsWords s =
+    s .peers
+    ∷ s .vectors
+    ∷ s .table
+    ∷ s .common
+    ∷ s .output
+    ∷ s .base % 2 ^ 32
+    ∷ s .base / 2 ^ 32
+    ∷ s .protocol
+    ∷ s .vendor
+    ∷ s .subsystem
+    ∷ []
 
 -- eight words from a place on as a peer's registers
 abbrev pub peerFrom : List ℕ → ℕ → Peer

@@ -5,6 +5,7 @@ ghost use mathlib.Core.Path.{_≡_};
 ghost use Prim.Native.Nat.{_+_, _*_, _^_, _<_, _≤_};
 ghost use lib.ListN.{length, getD};
 ghost use Rattle.words.specs.Layout.{hubWords, hubOf, settingsOf, withSettings, Storable};
+ghost use Rattle.words.specs.Parts.{settingsWords};
 
 fn widened(x: u32) -> u64
     ensures { λ r. ⌜ r ≡ x ⌝ }
@@ -50,12 +51,11 @@ pub fn settings(hub: &[u32]) -> Settings
     settings_from(hub)
 }
 
-pub fn put_settings(hub: &mut [u32], s: Settings)
-    requires room { ⌜ length (now hub) ≡ hubWords ⌝ }
-    requires small { ⌜ Storable s ⌝ }
-    ensures { λ r. ⌜ hubOf (now (hub .exit)) ≡ withSettings (hubOf (now (hub .entry))) s ⌝ }
+fn settings_words(s: Settings) -> [u32; 10]
+    requires { ⌜ Storable s ⌝ }
+    ensures { λ r. ⌜ r ≡ settingsWords s ⌝ }
 {
-    let values = [
+    [
         s.peers as u32,
         s.vectors as u32,
         s.table as u32,
@@ -66,6 +66,14 @@ pub fn put_settings(hub: &mut [u32], s: Settings)
         s.protocol as u32,
         s.vendor as u32,
         s.subsystem as u32,
-    ];
+    ]
+}
+
+pub fn put_settings(hub: &mut [u32], s: Settings)
+    requires room { ⌜ length (now hub) ≡ hubWords ⌝ }
+    requires small { ⌜ Storable s ⌝ }
+    ensures { λ r. ⌜ hubOf (now (hub .exit)) ≡ withSettings (hubOf (now (hub .entry))) s ⌝ }
+{
+    let values = settings_words(s);
     super::parts::put_words(hub, 0, 1, &values);
 }

@@ -6,6 +6,7 @@ use native.Mathlib.Omega.{arith}
 use borrow.Author.Needs.{needs}
 use Rattle.device.specs.Sizes.{maxPeers, maxVectors}
 use Rattle.words.proofs.IndexLaws.{entry-below}
+use Rattle.words.proofs.LayoutLaws.{entry-read}
 use Rattle.words.proofs.entries.entry.Statement.{statement}
 use Rattle.words.proofs.entries.entry.Tie as tie
 
@@ -20,7 +21,8 @@ entry-from-requires c κs =
     omega (arith, entry-below 3 (c .before .before .before .args .i) (c .before .before .before .args .v) (omega arith) (c .before .before .before .pre .1 .0) (c .before .before .before .pre .1 .1))
 
 returns : tie.Need-returns
-returns c = rw (c .entry-from .ensures, c .before .before .entry-start .ensures, c .before .column .ensures) ?
+returns c = rw (c .entry-from .ensures, c .before .before .entry-start .ensures, c .before .column .ensures)
+    (entry-read _ _ _ (c .before .before .before .before .pre .0) (c .before .before .before .before .pre .1 .0) (c .before .before .before .before .pre .1 .1))
 
 pub entry-spec : {M : Type 1} → statement M
 entry-spec = tie.close (tie.spec entry-start-requires column-requires entry-from-requires returns)

@@ -1,5 +1,5 @@
 -- `words::parts::put_words` meets its contract. The loop's invariant: the values passed are stored, and all else is as it was.
-use Prim.Native.Nat.{_+_, _-_, _*_, _≤_, _<_}
+use Prim.Native.Nat.{ℕ, _+_, _-_, _*_, _≤_, _<_}
 use mathlib.Core.Path.{_≡_, refl}
 use mathlib.Core.List.{List}
 use native.Mathlib.Omega.{arith}
@@ -60,10 +60,12 @@ loop-again c =
     ; copied = copied-more _ _ _ _ _ _ (c .before .before .before .pre .0) (place (c .before)) (c .before .before .loop .inv .copied) }
 
 same-length : tie.Need-same-length Inv-loop μ-loop
-same-length c = ?
+same-length c = c .before .loop .inv .same
 
 returns : tie.Need-returns Inv-loop μ-loop
-returns c = ?
+returns c =
+    let e : c .before .loop .k ≡ length (c .before .before .args .values .now) = omega arith in
+    rw e at (c .before .loop .inv .copied)
 
 pub put-words-spec : {M : Type 1} → statement M
 put-words-spec =

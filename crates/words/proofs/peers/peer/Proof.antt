@@ -1,11 +1,10 @@
 -- `words::peers::peer` meets its contract: the eight words are inside the hub.
 use Prim.Native.Nat.{_+_, _*_, _≤_}
-use mathlib.Core.Path.{sym, ap, _∙_}
+use mathlib.Core.Path.{_∙_}
 use native.Mathlib.Omega.{arith}
 use Rattle.device.proofs.SizeLaws.{maxPeers-small}
-use Rattle.device.specs.World.{Slot}
-use Rattle.words.specs.Layout.{hubWords, slotOf, peerOf}
-use Rattle.words.proofs.LayoutLaws.{slot-at}
+use Rattle.words.specs.Layout.{hubWords}
+use Rattle.words.proofs.LayoutLaws.{peer-read}
 use Rattle.words.proofs.peers.peer.Statement.{statement}
 use Rattle.words.proofs.peers.peer.Tie as tie
 
@@ -20,10 +19,7 @@ unfolding hubWords
 peer-from-requires c κs = omega arith
 
 returns : tie.Need-returns
-unfolding slotOf peerOf
-returns c =
-    c .peer-from .ensures
-    ∙ sym (ap (λ (s : Slot). s .peer) (slot-at _ _ (c .before .before .pre .0) (c .before .before .pre .1)))
+returns c = c .peer-from .ensures ∙ peer-read _ _ (c .before .before .pre .0) (c .before .before .pre .1)
 
 pub peer-spec : {M : Type 1} → statement M
 peer-spec = tie.close (tie.spec mul-peer-from add-peer-from peer-from-requires returns)

@@ -1,5 +1,5 @@
 -- `words::slots::put_zero` meets its contract. The loop's invariant: the words passed are zero, the others as they were.
-use Prim.Native.Nat.{_-_, _≤_}
+use Prim.Native.Nat.{ℕ, _-_, _≤_}
 use mathlib.Core.Path.{_≡_, refl, sym, ap, _∙_}
 use mathlib.Core.List.{_++_}
 use native.Mathlib.Omega.{arith}
@@ -30,13 +30,17 @@ loop-less : tie.Need-loop-less Inv-loop μ-loop
 loop-less c = omega arith
 
 loop-again : tie.Need-loop-again Inv-loop μ-loop
-loop-again c = (omega arith, simp length-set (omega arith), ?)
+loop-again c = (omega arith, simp length-set (omega arith), rw (c .before .loop .inv .2) (filled-more (c .before .loop .k) 0 (c .before .before .args .hub .now) (omega arith)))
 
 same-length : tie.Need-same-length Inv-loop μ-loop
-same-length c = ?
+same-length c = c .before .loop .inv .1
 
 returns : tie.Need-returns Inv-loop μ-loop
-returns c = ?
+returns c =
+    let e : c .before .loop .k ≡ length (c .before .before .args .hub .now) = omega arith in
+    c .before .loop .inv .2
+    ∙ filled-all (c .before .loop .k) 0 (c .before .before .args .hub .now) (sym e)
+    ∙ ap (λ (n : ℕ). replicate n 0) e
 
 pub put-zero-spec : {M : Type 1} → statement M
 put-zero-spec =
