@@ -1,37 +1,32 @@
+-- `words::header::put_settings` meets its contract: the first ten words are stored.
+use Prim.Native.Nat.{_+_, _*_, _<_}
+use mathlib.Core.Path.{_≡_, _∙_}
+use native.Mathlib.Omega.{arith}
 use borrow.Author.Needs.{needs}
+use Rattle.words.specs.Layout.{hubWords}
+use Rattle.words.proofs.LayoutLaws.{settings-put}
 use Rattle.words.proofs.header.put_settings.Statement.{statement}
 use Rattle.words.proofs.header.put_settings.Tie as tie
-use Rattle.words.proofs.header.put_settings.Reads as reads
-use Rattle.words.proofs.header.put_settings.Lts as lts
-use Rattle.words.proofs.header.settings_words.Reads as settings-words-reads
-use Rattle.words.proofs.parts.put_words.Reads as put-words-reads
 
--- src/header.rt:77:18
 settings-words-requires : tie.Need-settings-words-requires
 settings-words-requires c κs = search needs
 
--- src/header.rt:78:40
 slice-aggregate-put-words : tie.Need-slice-aggregate-put-words
 slice-aggregate-put-words c = search needs
 
--- src/header.rt:78:5
 put-words-requires : tie.Need-put-words-requires
-put-words-requires c κs = ?
+unfolding hubWords
+put-words-requires c κs = rw (c .before .before .settings-words .ensures) (omega arith)
 
--- src/header.rt:72:1
 same-length : tie.Need-same-length
 same-length c = search needs
 
--- src/header.rt:72:1
 returns : tie.Need-returns
-returns c = ?
+returns c =
+    settings-put _ _ (c .before .before .before .before .before .before .before .pre .0) (c .before .before .put-words .kept .0 ∙ c .before .before .before .before .before .before .before .pre .0) _
+    (rw (c .before .before .before .before .before .settings-words .ensures) at (c .before .before .put-words .ensures))
 
 pub put-settings-spec : {M : Type 1} → statement M
 put-settings-spec =
     tie.close
-    (tie.spec
-    settings-words-requires
-    slice-aggregate-put-words
-    put-words-requires
-    same-length
-    returns)
+    (tie.spec settings-words-requires slice-aggregate-put-words put-words-requires same-length returns)
