@@ -48,7 +48,7 @@ module _ {ℓ} {A : Type ℓ} where
 
   -- two tables that differ at one place only
   pub set-tabulate : (n : ℕ) (f g : ℕ → A) (i : ℕ) (a : A) → i < n → g i ≡ a
-    → ((j : ℕ) → j < n → (j ≡ i → ⊥) → g j ≡ f j) → tabulate n g ≡ set (tabulate n f) i a
+      → ((j : ℕ) → j < n → (j ≡ i → ⊥) → g j ≡ f j) → tabulate n g ≡ set (tabulate n f) i a
   set-tabulate n f g i a h here others =
       ext-getD a _ _ (simp (length-set, length-tabulate)) (λ j l. at j (rw length-tabulate at l) (eqb j i) refl)
     where

@@ -15,9 +15,10 @@ pub entries-pos : 0 < maxPeers * maxVectors
 entries-pos = mul-pos maxPeers-pos maxVectors-pos
 
 digits-injective : {q r p s m : ℕ} → r < m → s < m → q * m + r ≡ p * m + s → (q ≡ p) × (r ≡ s)
-digits-injective {q} {r} {p} {s} {m} hr hs e =
-    ( sym (digits-div q hr) ∙ ap (λ (n : ℕ). n / m) e ∙ digits-div p hs
-    , sym (digits-mod q hr) ∙ ap (λ (n : ℕ). n % m) e ∙ digits-mod p hs )
+digits-injective {q} {r} {p} {s} {m} hr hs e = (
+  sym (digits-div q hr) ∙ ap (λ (n : ℕ). n / m) e ∙ digits-div p hs,
+  sym (digits-mod q hr) ∙ ap (λ (n : ℕ). n % m) e ∙ digits-mod p hs,
+)
 
 -- an entry's place in its column
 pub row-below : {i v : ℕ} → i < maxPeers → v < maxVectors → i * maxVectors + v < maxPeers * maxVectors
@@ -30,7 +31,7 @@ entry-below c i v hc hi hv =
     omega arith
 
 pub entry-apart : (c d i j v w : ℕ) → i < maxPeers → j < maxPeers → v < maxVectors → w < maxVectors
-  → entryStart c i v ≡ entryStart d j w → (i ≡ j) × (v ≡ w)
+    → entryStart c i v ≡ entryStart d j w → (i ≡ j) × (v ≡ w)
 entry-apart c d i j v w hi hj hv hw e =
     let s : c * (maxPeers * maxVectors) + (i * maxVectors + v) ≡ d * (maxPeers * maxVectors) + (j * maxVectors + w) = omega arith in
     digits-injective hv hw (digits-injective (row-below hi hv) (row-below hj hw) s .1)
@@ -52,11 +53,12 @@ entry-place k low high =
     let m : ℕ = maxPeers * maxVectors in
     let rest : n / m * m + n % m ≡ n = div-add-mod' n m in
     let row : n % m / maxVectors * maxVectors + n % m % maxVectors ≡ n % m = div-add-mod' (n % m) maxVectors in
-    record
-    { column = n / m
-    ; id = n % m / maxVectors
-    ; vector = n % m % maxVectors
-    ; column-below = div-lt-iff-lt-mul entries-pos .1 (omega arith)
-    ; id-below = div-lt-iff-lt-mul maxVectors-pos .1 (mod-lt n entries-pos)
-    ; vector-below = mod-lt (n % m) maxVectors-pos
-    ; place = omega arith }
+    record {
+      column = n / m;
+      id = n % m / maxVectors;
+      vector = n % m % maxVectors;
+      column-below = div-lt-iff-lt-mul entries-pos .1 (omega arith);
+      id-below = div-lt-iff-lt-mul maxVectors-pos .1 (mod-lt n entries-pos);
+      vector-below = mod-lt (n % m) maxVectors-pos;
+      place = omega arith;
+    }

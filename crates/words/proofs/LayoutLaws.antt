@@ -44,7 +44,7 @@ unfolding slotOf peerOf
 peer-read ws i e hi = sym (ap (λ (s : Slot). s .peer) (slot-at ws i e hi))
 
 pub entry-read : (ws : List ℕ) (i v : ℕ) → length ws ≡ hubWords → i < maxPeers → v < maxVectors
-  → entryFrom ws (entryStart 0 i v) (maxPeers * maxVectors) ≡ entryAt (slotAt (hubOf ws) i) v
+    → entryFrom ws (entryStart 0 i v) (maxPeers * maxVectors) ≡ entryAt (slotAt (hubOf ws) i) v
 unfolding entryOf
 entry-read ws i v e hi hv =
     let high : entryStart 0 i v + maxPeers * maxVectors ≡ entryStart 1 i v = omega arith in
@@ -130,9 +130,10 @@ module _ (a b : List ℕ) where
   slot-same : (j : ℕ) → SamePeer j → ((w : ℕ) → w < maxVectors → SameEntry j w) → slotOf b j ≡ slotOf a j
   unfolding slotOf
   slot-same j peer entries =
-      λ t. record
-      { peer = peer-same j peer t
-      ; entries = tabulate-ext maxVectors (entryOf b j) (entryOf a j) (λ w h. entry-same j w (entries w h)) t }
+      λ t. record {
+        peer = peer-same j peer t;
+        entries = tabulate-ext maxVectors (entryOf b j) (entryOf a j) (λ w h. entry-same j w (entries w h)) t;
+      }
 
   module _ (la : length a ≡ hubWords) (lb : length b ≡ hubWords) where
     -- the settings are stored
@@ -141,50 +142,53 @@ module _ (a b : List ℕ) where
     settings-put s stored =
         let copied : Copied a b (λ r. r) (settingsWords s) 10 = copied-at (λ r. omega arith) stored in
         rw (hub-decoded a la, hub-decoded b lb)
-        (λ t. record
-        { settings =
-            (settings-table b
-            ∙ ap settingsOf (tabulate-ext 10 (word b) (word (settingsWords s)) (copied .there))
-            ∙ settings-back s) t
-        ; slots =
-            tabulate-ext maxPeers (slotOf b) (slotOf a)
-            (λ j h. slot-same j (λ r _. copied .kept _ (omega arith)) (λ w _ c _. copied .kept _ (omega arith))) t })
+        (λ t. record {
+          settings =
+              (settings-table b
+              ∙ ap settingsOf (tabulate-ext 10 (word b) (word (settingsWords s)) (copied .there))
+              ∙ settings-back s) t;
+          slots =
+              tabulate-ext maxPeers (slotOf b) (slotOf a)
+              (λ j h. slot-same j (λ r _. copied .kept _ (omega arith)) (λ w _ c _. copied .kept _ (omega arith))) t;
+        })
 
     -- one slot is changed
     slot-put : (i : ℕ) (s : Slot) → i < maxPeers → settingsOf b ≡ settingsOf a → slotOf b i ≡ s
-      → ((j : ℕ) → j < maxPeers → (j ≡ i → ⊥) → slotOf b j ≡ slotOf a j) → hubOf b ≡ withSlot (hubOf a) i s
+        → ((j : ℕ) → j < maxPeers → (j ≡ i → ⊥) → slotOf b j ≡ slotOf a j) → hubOf b ≡ withSlot (hubOf a) i s
     unfolding decoded
     slot-put i s h settings here others =
         rw (hub-decoded a la, hub-decoded b lb)
         (λ t. record { settings = settings t; slots = set-tabulate maxPeers (slotOf a) (slotOf b) i s h here others t })
 
     pub peer-put : (i : ℕ) (p : Peer) → i < maxPeers → Copied a b (λ r. peerStart i + r * 1) (peerWords p) 8
-      → hubOf b ≡ withSlot (hubOf a) i (withPeer (slotAt (hubOf a) i) p)
+        → hubOf b ≡ withSlot (hubOf a) i (withPeer (slotAt (hubOf a) i) p)
     unfolding slotOf
     peer-put i p h stored =
         let copied : Copied a b (λ r. peerStart i + r) (peerWords p) 8 = copied-at (λ r. omega arith) stored in
         let entries : (j w : ℕ) → w < maxVectors → SameEntry j w = λ j w _ c _. copied .kept _ (omega arith) in
         rw (slot-at a i la h)
         (slot-put i (withPeer (slotOf a i) p) h (settings-same a b (λ k l. copied .kept k (omega arith)))
-        (λ t. record
-        { peer = peer-is b i p (copied .there) t
-        ; entries = tabulate-ext maxVectors (entryOf b i) (entryOf a i) (λ w l. entry-same i w (entries i w l)) t })
+        (λ t. record {
+          peer = peer-is b i p (copied .there) t;
+          entries = tabulate-ext maxVectors (entryOf b i) (entryOf a i) (λ w l. entry-same i w (entries i w l)) t;
+        })
         (λ j _ ne. slot-same j (λ r hr. copied .kept _ (omega arith)) (entries j)))
 
     pub entry-put : (i v : ℕ) (e : Entry) → i < maxPeers → v < maxVectors
-      → Copied a b (λ c. entryStart 0 i v + c * (maxPeers * maxVectors)) (entryWords e) 4
-      → hubOf b ≡ withSlot (hubOf a) i (withEntry (slotAt (hubOf a) i) v e)
+        → Copied a b (λ c. entryStart 0 i v + c * (maxPeers * maxVectors)) (entryWords e) 4
+        → hubOf b ≡ withSlot (hubOf a) i (withEntry (slotAt (hubOf a) i) v e)
     unfolding slotOf
     entry-put i v e hi hv stored =
         let copied : Copied a b (λ c. entryStart c i v) (entryWords e) 4 = copied-at (λ c. omega arith) stored in
         let peer : (j : ℕ) → j < maxPeers → SamePeer j = λ j hj r hr. copied .kept _ (omega arith) in
         rw (slot-at a i la hi)
         (slot-put i (withEntry (slotOf a i) v e) hi (settings-same a b (λ k l. copied .kept k (omega arith)))
-        (λ t. record
-        { peer = peer-same i (peer i hi) t
-        ; entries =
-            set-tabulate maxVectors (entryOf a i) (entryOf b i) v e hv (entry-is b i v e (copied .there))
-            (λ w hw ne. entry-same i w (λ c _. copied .kept _ (λ d _ same. ne (entry-apart c d i i w v hi hi hw hv same .1)))) t })
+        (λ t. record {
+          peer = peer-same i (peer i hi) t;
+          entries =
+              set-tabulate maxVectors (entryOf a i) (entryOf b i) v e hv (entry-is b i v e (copied .there))
+              (λ w hw ne. entry-same i w (λ c _. copied .kept _ (λ d _ same. ne (entry-apart c d i i w v hi hi hw hv same .1)))) t;
+        })
         (λ j hj ne. slot-same j (peer j hj)
         (λ w hw c _. copied .kept _ (λ d _ same. ne (entry-apart c d j i w v hj hi hw hv same .0)))))
 
@@ -192,9 +196,10 @@ module _ (a b : List ℕ) where
 zero-decoded : decoded [] ≡ zeroHub
 unfolding decoded settingsOf slotOf peerOf entryOf zeroHub zeroSlot
 zero-decoded =
-    λ t. record
-    { settings = settingsOf []
-    ; slots = (ap (λ (s : Slot). tabulate maxPeers (λ _. s)) entries ∙ tabulate-const maxPeers zeroSlot) t }
+    λ t. record {
+      settings = settingsOf [];
+      slots = (ap (λ (s : Slot). tabulate maxPeers (λ _. s)) entries ∙ tabulate-const maxPeers zeroSlot) t;
+    }
   where
     entries : slotOf [] 0 ≡ zeroSlot
     entries = λ t. record { peer = zeroSlot .peer; entries = tabulate-const maxVectors zeroEntry t }
@@ -210,36 +215,43 @@ zero-words n = by (eqb (length (replicate n 0)) hubWords)
     zeros : (k : ℕ) (t : Bool) → ltb k n ≡ t → word (replicate n 0) k ≡ 0
     zeros k true e = getD-replicate n k 0 0 (ltb-true k n e)
     zeros k false e = List·getD-eq-default (replicate n 0) 0 {n = k} (rw length-replicate (ltb-false k n e))
+
     same : (k : ℕ) → word (replicate n 0) k ≡ word [] k
     same k = zeros k (ltb k n) refl
+
     by : (t : Bool) → decoded (cond t (replicate n 0) []) ≡ zeroHub
     by true =
-        (λ t. record
-        { settings = settings-same [] (replicate n 0) (λ k _. same k) t
-        ; slots =
-            tabulate-ext maxPeers (slotOf (replicate n 0)) (slotOf [])
-            (λ j _. slot-same [] (replicate n 0) j (λ r _. same _) (λ w _ c _. same _)) t })
+        (λ t. record {
+          settings = settings-same [] (replicate n 0) (λ k _. same k) t;
+          slots =
+              tabulate-ext maxPeers (slotOf (replicate n 0)) (slotOf [])
+              (λ j _. slot-same [] (replicate n 0) j (λ r _. same _) (λ w _ c _. same _)) t;
+        })
         ∙ zero-decoded
     by false = zero-decoded
 
 -- equal hubs in words of the right length, all below 2^32, are the same words
 pub hub-injective : (a b : List ℕ) → length a ≡ hubWords → length b ≡ hubWords → ((k : ℕ) → getD a k 0 < 2 ^ 32)
-  → ((k : ℕ) → getD b k 0 < 2 ^ 32) → hubOf a ≡ hubOf b → a ≡ b
+    → ((k : ℕ) → getD b k 0 < 2 ^ 32) → hubOf a ≡ hubOf b → a ≡ b
 unfolding slotOf
 hub-injective a b la lb fa fb e = ext-getD 0 a b (la ∙ sym lb) (λ k h. at k (rw la at h) (ltb k 10) refl)
   where
     settings : settingsOf a ≡ settingsOf b
     settings = sym (settings-at a la) ∙ ap (λ (h : Hub). h .settings) e ∙ settings-at b lb
+
     slot : (i : ℕ) → i < maxPeers → slotOf a i ≡ slotOf b i
     slot i h = sym (slot-at a i la h) ∙ ap (λ (h : Hub). slotAt h i) e ∙ slot-at b i lb h
+
     at-peer : (i r : ℕ) → i < maxPeers → r < 8 → word a (peerStart i + r) ≡ word b (peerStart i + r)
     at-peer i r hi hr =
         peer-word a i r hr ∙ ap (λ (s : Slot). word (peerWords (s .peer)) r) (slot i hi) ∙ sym (peer-word b i r hr)
+
     at-entry : (c i v : ℕ) → c < 4 → i < maxPeers → v < maxVectors → word a (entryStart c i v) ≡ word b (entryStart c i v)
     at-entry c i v hc hi hv =
         let entry : entryOf a i v ≡ entryOf b i v =
-          sym (entry-at a i v hv) ∙ ap (λ (s : Slot). entryAt s v) (slot i hi) ∙ entry-at b i v hv in
+        sym (entry-at a i v hv) ∙ ap (λ (s : Slot). entryAt s v) (slot i hi) ∙ entry-at b i v hv in
         entry-word a i v c hc ∙ ap (λ (e : Entry). word (entryWords e) c) entry ∙ sym (entry-word b i v c hc)
+
     past-settings : (k : ℕ) → 10 ≤ k → k < hubWords → (t : Bool) → ltb k (10 + 8 * maxPeers) ≡ t → word a k ≡ word b k
     past-settings k low h true t =
         let l : k < 10 + 8 * maxPeers = ltb-true k (10 + 8 * maxPeers) t in
@@ -248,6 +260,7 @@ hub-injective a b la lb fa fb e = ext-getD 0 a b (la ∙ sym lb) (λ k h. at k (
     past-settings k low h false t =
         let p : EntryPlace k = entry-place k (ltb-false k (10 + 8 * maxPeers) t) h in
         rw (p .place) at (at-entry (p .column) (p .id) (p .vector) (p .column-below) (p .id-below) (p .vector-below))
+
     at : (k : ℕ) → k < hubWords → (t : Bool) → ltb k 10 ≡ t → word a k ≡ word b k
     at k h true t =
         tabulate-injective 10 (word a) (word b)

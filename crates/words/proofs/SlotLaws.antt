@@ -11,7 +11,7 @@ use Rattle.device.specs.Reset.{resetPeer, resetEntry}
 use Rattle.device.specs.SetUp.{freshHub}
 use Rattle.device.specs.Sizes.{maxPeers, maxVectors}
 use Rattle.device.specs.World.{Hub, Slot, zeroSlot, resetSlot, slotAt, withSlot, withPeer, withEntry}
-use Rattle.words.specs.Layout.{hubOf, withSettings}
+use Rattle.words.specs.Layout.{hubOf}
 use Rattle.words.proofs.LayoutLaws.{slots-length, entries-length}
 
 -- a slot with its first v entries at reset, and a hub with its first i slots at reset
@@ -26,47 +26,49 @@ slot-kept h i = λ t. record { settings = h .settings; slots = sym (set-getD (h 
 
 -- a slot changed twice
 slot-twice : (ws : List ℕ) (i : ℕ) (s : Slot) (f : Slot → Slot) → i < maxPeers
-  → withSlot (withSlot (hubOf ws) i s) i (f (slotAt (withSlot (hubOf ws) i s) i)) ≡ withSlot (hubOf ws) i (f s)
+    → withSlot (withSlot (hubOf ws) i s) i (f (slotAt (withSlot (hubOf ws) i s) i)) ≡ withSlot (hubOf ws) i (f s)
 slot-twice ws i s f l =
     let slots : List Slot = hubOf ws .slots in
     let found : slotAt (withSlot (hubOf ws) i s) i ≡ s = getD-set-same slots i s zeroSlot (rw slots-length l) in
-    λ t. record
-    { settings = hubOf ws .settings
-    ; slots = (set-set slots i s (f (slotAt (withSlot (hubOf ws) i s) i)) ∙ ap (λ (x : Slot). set slots i (f x)) found) t }
+    λ t. record {
+      settings = hubOf ws .settings;
+      slots = (set-set slots i s (f (slotAt (withSlot (hubOf ws) i s) i)) ∙ ap (λ (x : Slot). set slots i (f x)) found) t;
+    }
 
 module _ (ws : List ℕ) (now after : Hub) (i : ℕ) (below : i < maxPeers) where
   pub cleared-more : (v : ℕ) → v < maxVectors → now ≡ withSlot (hubOf ws) i (cleared (slotAt (hubOf ws) i) v)
-    → after ≡ withSlot now i (withEntry (slotAt now i) v resetEntry)
-    → after ≡ withSlot (hubOf ws) i (cleared (slotAt (hubOf ws) i) (v + 1))
+      → after ≡ withSlot now i (withEntry (slotAt now i) v resetEntry)
+      → after ≡ withSlot (hubOf ws) i (cleared (slotAt (hubOf ws) i) (v + 1))
   cleared-more v l was step =
       step
       ∙ ap (λ (h : Hub). withSlot h i (withEntry (slotAt h i) v resetEntry)) was
       ∙ slot-twice ws i (cleared (slotAt (hubOf ws) i) v) (λ s. withEntry s v resetEntry) below
       ∙ ap (λ (es : List Entry). withSlot (hubOf ws) i (record { peer = slotAt (hubOf ws) i .peer; entries = es }))
-          (filled-more v resetEntry (slotAt (hubOf ws) i .entries) (rw (entries-length ws i below) l))
+      (filled-more v resetEntry (slotAt (hubOf ws) i .entries) (rw (entries-length ws i below) l))
 
   pub cleared-all : (connected : ℕ) → now ≡ withSlot (hubOf ws) i (withPeer (slotAt (hubOf ws) i) (resetPeer connected))
-    → after ≡ withSlot now i (cleared (slotAt now i) maxVectors) → after ≡ withSlot (hubOf ws) i (resetSlot connected)
+      → after ≡ withSlot now i (cleared (slotAt now i) maxVectors) → after ≡ withSlot (hubOf ws) i (resetSlot connected)
   unfolding resetSlot
   cleared-all connected was step =
       step
       ∙ ap (λ (h : Hub). withSlot h i (cleared (slotAt h i) maxVectors)) was
       ∙ slot-twice ws i (withPeer (slotAt (hubOf ws) i) (resetPeer connected)) (λ s. cleared s maxVectors) below
       ∙ ap (λ (es : List Entry). withSlot (hubOf ws) i (record { peer = resetPeer connected; entries = es }))
-          (filled-all maxVectors resetEntry (slotAt (hubOf ws) i .entries) (entries-length ws i below))
+      (filled-all maxVectors resetEntry (slotAt (hubOf ws) i .entries) (entries-length ws i below))
 
   pub emptied-more : now ≡ emptied (hubOf ws) i → after ≡ withSlot now i (resetSlot 0) → after ≡ emptied (hubOf ws) (i + 1)
   emptied-more was step =
       step
       ∙ ap (λ (h : Hub). withSlot h i (resetSlot 0)) was
       ∙ ap (λ (slots : List Slot). record { settings = hubOf ws .settings; slots = slots })
-          (filled-more i (resetSlot 0) (hubOf ws .slots) (rw slots-length below))
+      (filled-more i (resetSlot 0) (hubOf ws .slots) (rw slots-length below))
 
-pub emptied-all : (ws : List ℕ) (before after : Hub) (s : Settings) → hubOf ws ≡ withSettings before s
-  → after ≡ emptied (hubOf ws) maxPeers → after ≡ freshHub s
+pub emptied-all :
+  (ws : List ℕ) (after : Hub) (s : Settings)
+  → hubOf ws .settings ≡ s
+  → after ≡ emptied (hubOf ws) maxPeers
+  → after ≡ freshHub s
 unfolding freshHub
-emptied-all ws before after s was step =
+emptied-all ws after s was step =
     step
-    ∙ (λ t. record
-      { settings = was t .settings
-      ; slots = filled-all maxPeers (resetSlot 0) (hubOf ws .slots) (slots-length ws) t })
+    ∙ (λ t. record { settings = was t; slots = filled-all maxPeers (resetSlot 0) (hubOf ws .slots) (slots-length ws) t })

@@ -25,24 +25,26 @@ settingsWords s =
 -- eight words from a place on as a peer's registers
 abbrev pub peerFrom : List ℕ → ℕ → Peer
 peerFrom ws at =
-    record
-    { connected = word ws at
-    ; command = word ws (at + 1)
-    ; bar0 = word ws (at + 2)
-    ; bar1 = word ws (at + 3)
-    ; privileged = word ws (at + 4)
-    ; message = word ws (at + 5)
-    ; interrupt = word ws (at + 6)
-    ; state = word ws (at + 7) }
+    record {
+      connected = word ws at;
+      command = word ws (at + 1);
+      bar0 = word ws (at + 2);
+      bar1 = word ws (at + 3);
+      privileged = word ws (at + 4);
+      message = word ws (at + 5);
+      interrupt = word ws (at + 6);
+      state = word ws (at + 7);
+    }
 
 -- four words from a place on, each a step further, as an entry
 abbrev pub entryFrom : List ℕ → ℕ → ℕ → Entry
 entryFrom ws at step =
-    record
-    { low = word ws at
-    ; high = word ws (at + step)
-    ; payload = word ws (at + 2 * step)
-    ; control = word ws (at + 3 * step) }
+    record {
+      low = word ws at;
+      high = word ws (at + step);
+      payload = word ws (at + 2 * step);
+      control = word ws (at + 3 * step);
+    }
 
 -- the first n values stand at their places, and every other word is as it was
 pub record Copied (before after : List ℕ) (place : ℕ → ℕ) (values : List ℕ) (n : ℕ) : Type 0 where

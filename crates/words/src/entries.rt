@@ -1,6 +1,5 @@
 // The MSI-X entries, in four columns.
 use device::Entry;
-
 ghost use mathlib.Core.Path.{_≡_};
 ghost use Prim.Native.Nat.{_+_, _*_, _<_};
 ghost use lib.ListN.{length};

@@ -1,6 +1,5 @@
 // The first ten words: the settings.
 use device::Settings;
-
 ghost use mathlib.Core.Path.{_≡_};
 ghost use Prim.Native.Nat.{_+_, _*_, _^_, _<_, _≤_};
 ghost use lib.ListN.{length, getD};

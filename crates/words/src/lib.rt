@@ -15,7 +15,6 @@ pub use peers::put_peer;
 pub use slots::put_fresh;
 pub use slots::put_reset;
 pub use slots::put_zero;
-
 ghost use mathlib.Core.Path.{_≡_};
 ghost use Rattle.words.specs.Layout.{hubWords};
 

@@ -1,6 +1,6 @@
 // Several words of the hub at once.
-use device::{Entry, Peer};
-
+use device::Entry;
+use device::Peer;
 ghost use mathlib.Core.Path.{_≡_};
 ghost use Prim.Native.Nat.{ℕ, _+_, _*_, _<_, _≤_};
 ghost use lib.ListN.{length};

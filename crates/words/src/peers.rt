@@ -1,6 +1,5 @@
 // Eight words for each peer.
 use device::Peer;
-
 ghost use mathlib.Core.Path.{_≡_};
 ghost use Prim.Native.Nat.{_<_};
 ghost use lib.ListN.{length};

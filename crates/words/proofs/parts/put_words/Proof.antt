@@ -22,7 +22,7 @@ abbrev μ-loop : tie.MeasureT-loop
 
 -- the place of the next store
 place : (c : tie.In-loop Inv-loop μ-loop)
-  → c .before .before .args .at + c .before .loop .k * c .before .before .args .step < length (c .before .loop .hub)
+    → c .before .before .args .at + c .before .loop .k * c .before .before .args .step < length (c .before .loop .hub)
 place c = rw (c .before .loop .inv .same) (c .before .before .pre .1 _ (c .loop-test .taken))
 
 loop-holds : tie.Need-loop-holds Inv-loop μ-loop
@@ -54,10 +54,11 @@ loop-less c = omega arith
 
 loop-again : tie.Need-loop-again Inv-loop μ-loop
 loop-again c =
-    record
-    { bound = omega arith
-    ; same = simp length-set (c .before .before .loop .inv .same)
-    ; copied = copied-more _ _ _ _ _ _ (c .before .before .before .pre .0) (place (c .before)) (c .before .before .loop .inv .copied) }
+    record {
+      bound = omega arith;
+      same = simp length-set (c .before .before .loop .inv .same);
+      copied = copied-more _ _ _ _ _ _ (c .before .before .before .pre .0) (place (c .before)) (c .before .before .loop .inv .copied);
+    }
 
 same-length : tie.Need-same-length Inv-loop μ-loop
 same-length c = c .before .loop .inv .same

@@ -51,13 +51,14 @@ loop-less c = omega arith
 
 loop-again : tie.Need-loop-again Inv-loop μ-loop
 loop-again c =
-    record
-    { bound = omega arith
-    ; size = c .before .before .put-entry .kept .0 ∙ c .before .before .before .before .before .before .loop .inv .size
-    ; reset =
-        cleared-more _ _ _ _ (c .before .before .before .before .before .before .before .before .before .before .before .before .before .before .pre .1) _ (rw (c .before .before .before .before .before .before .before .max-vectors .ensures) at (c .before .before .before .before .before .loop-test .taken))
-        (c .before .before .before .before .before .before .loop .inv .reset)
-        (rw (c .before .before .before .reset2 .ensures) at (c .before .before .put-entry .ensures)) }
+    record {
+      bound = omega arith;
+      size = c .before .before .put-entry .kept .0 ∙ c .before .before .before .before .before .before .loop .inv .size;
+      reset =
+          cleared-more _ _ _ _ (c .before .before .before .before .before .before .before .before .before .before .before .before .before .before .pre .1) _ (rw (c .before .before .before .before .before .before .before .max-vectors .ensures) at (c .before .before .before .before .before .loop-test .taken))
+          (c .before .before .before .before .before .before .loop .inv .reset)
+          (rw (c .before .before .before .reset2 .ensures) at (c .before .before .put-entry .ensures));
+    }
 
 same-length : tie.Need-same-length Inv-loop μ-loop
 same-length c = omega (arith, c .before .before .before .before .before .before .before .before .before .pre .0)
