@@ -1,5 +1,5 @@
 -- Laws of specs/Parts.antt: storing one value more, by induction over their number.
-use Prim.Native.Nat.{ℕ, suc, _+_, _*_, _<_}
+use Prim.Native.Nat.{ℕ, _+_, _*_, _<_}
 use mathlib.Core.Logic.{⊎-elim}
 use mathlib.Core.Path.{_≡_, refl, subst, fun-ext, _∙_}
 use mathlib.Core.List.{List}

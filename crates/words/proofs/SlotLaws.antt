@@ -2,7 +2,7 @@
 use Prim.Native.Nat.{ℕ, _+_, _<_}
 use mathlib.Core.List.{List, _++_}
 use mathlib.Core.Path.{_≡_, sym, ap, _∙_}
-use lib.ListN.{length, set, drop, replicate}
+use lib.ListN.{set, drop, replicate}
 use lib.Seq.{getD-set-same, set-getD, set-set}
 use Rattle.common.proofs.ListLaws.{filled-more, filled-all}
 use Rattle.device.specs.declared.Entry.{Entry}

@@ -1,5 +1,4 @@
 -- `words::entries::column` meets its contract: the product is small.
-use mathlib.Core.Path.{refl}
 use native.Mathlib.Omega.{arith}
 use borrow.Author.Needs.{needs}
 use Rattle.words.proofs.IndexLaws.{entries-small}

@@ -1,10 +1,6 @@
 -- `words::entries::entry` meets its contract: the four places are those of the entry's columns.
-use Prim.Native.Nat.{ℕ, _+_, _*_, _<_}
-use mathlib.Core.Path.{_≡_, refl, sym, ap, _∙_}
-use mathlib.Core.List.{List}
 use native.Mathlib.Omega.{arith}
 use borrow.Author.Needs.{needs}
-use Rattle.device.specs.Sizes.{maxPeers, maxVectors}
 use Rattle.words.proofs.IndexLaws.{entry-below}
 use Rattle.words.proofs.LayoutLaws.{entry-read}
 use Rattle.words.proofs.entries.entry.Statement.{statement}

@@ -1,6 +1,5 @@
 -- `words::entries::put_entry` meets its contract: four words inside the hub, a column apart, are stored.
-use Prim.Native.Nat.{ℕ, _+_, _*_, _<_}
-use mathlib.Core.Path.{_≡_, _∙_}
+use mathlib.Core.Path.{_∙_}
 use native.Mathlib.Omega.{arith}
 use borrow.Author.Needs.{needs}
 use Rattle.words.proofs.IndexLaws.{entries-pos, entry-below}

@@ -1,5 +1,4 @@
 -- `words::peers::peer` meets its contract: the eight words are inside the hub.
-use Prim.Native.Nat.{_+_, _*_, _≤_}
 use mathlib.Core.Path.{_∙_}
 use native.Mathlib.Omega.{arith}
 use Rattle.device.proofs.SizeLaws.{maxPeers-small}

@@ -1,6 +1,5 @@
 -- `words::peers::put_peer` meets its contract: eight words inside the hub are stored.
-use Prim.Native.Nat.{_+_, _*_, _<_}
-use mathlib.Core.Path.{_≡_, _∙_}
+use mathlib.Core.Path.{_∙_}
 use native.Mathlib.Omega.{arith}
 use borrow.Author.Needs.{needs}
 use Rattle.device.proofs.SizeLaws.{maxPeers-small}

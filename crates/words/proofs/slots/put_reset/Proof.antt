@@ -1,5 +1,5 @@
 -- `words::slots::put_reset` meets its contract. The loop's invariant: of the slot, the entries passed are at reset.
-use Prim.Native.Nat.{ℕ, _+_, _-_, _≤_, _<_}
+use Prim.Native.Nat.{ℕ, _-_, _≤_}
 use mathlib.Core.List.{List}
 use mathlib.Core.Path.{_≡_, _∙_}
 use native.Mathlib.Omega.{arith}
