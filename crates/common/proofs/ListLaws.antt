@@ -34,9 +34,9 @@ module _ {ℓ} {A : Type ℓ} where
   tabulate-ext (suc n) f g same =
       λ t. tabulate-ext n f g (λ i l. same i (omega arith)) t ++ (same n (omega arith) t ∷ [])
 
-  pub tabulate-injective : (n : ℕ) (f g : ℕ → A) → tabulate n f ≡ tabulate n g → (i : ℕ) → i < n → f i ≡ g i
-  tabulate-injective n f g e i h =
-      sym (getD-tabulate n f i (f i) h) ∙ ap (λ (l : List A). getD l i (f i)) e ∙ getD-tabulate n g i (f i) h
+  -- a list that is a table has its values
+  pub tabulate-at : (n : ℕ) (f : ℕ → A) {l : List A} → tabulate n f ≡ l → (i : ℕ) (d : A) → i < n → f i ≡ getD l i d
+  tabulate-at n f e i d h = sym (getD-tabulate n f i d h) ∙ ap (λ (l : List A). getD l i d) e
 
   pub tabulate-const : (n : ℕ) (a : A) → tabulate n (λ _. a) ≡ replicate n a
   unfolding tabulate

@@ -9,7 +9,7 @@ use borrow.Author.Tests.{eq-eqb, ne-eqb, ltb-true, ltb-false}
 use lib.Dec.{eqb, ltb}
 use lib.ListN.{length, getD, replicate, getD-replicate, length-replicate, List·getD-eq-default}
 use lib.Seq.{ext-getD}
-use Rattle.common.proofs.ListLaws.{length-tabulate, getD-tabulate, tabulate-ext, tabulate-injective, tabulate-const, set-tabulate}
+use Rattle.common.proofs.ListLaws.{length-tabulate, getD-tabulate, tabulate-at, tabulate-ext, tabulate-const, set-tabulate}
 use Rattle.common.specs.Lists.{tabulate}
 use Rattle.device.specs.declared.Entry.{Entry}
 use Rattle.device.specs.declared.Peer.{Peer}
@@ -107,11 +107,14 @@ unfolding tabulate
 entry-is ws i v e same =
     ap (λ (l : List ℕ). entryFrom l 0 1) (sym (entry-words ws i v) ∙ tabulate-ext 4 _ (word (entryWords e)) same)
 
+settings-word : (ws : List ℕ) → word ws 5 < 2 ^ 32 → (k : ℕ) → k < 10 → word ws k ≡ word (settingsWords (settingsOf ws)) k
+settings-word ws h k l = tabulate-at 10 (word ws) (settings-words ws h) k 0 l
+
 peer-word : (ws : List ℕ) (i r : ℕ) → r < 8 → word ws (peerStart i + r) ≡ word (peerWords (peerOf ws i)) r
-peer-word ws i r h = sym (getD-tabulate 8 (λ r. word ws (peerStart i + r)) r 0 h) ∙ ap (λ (l : List ℕ). word l r) (peer-words ws i)
+peer-word ws i r h = tabulate-at 8 (λ r. word ws (peerStart i + r)) (peer-words ws i) r 0 h
 
 entry-word : (ws : List ℕ) (i v c : ℕ) → c < 4 → word ws (entryStart c i v) ≡ word (entryWords (entryOf ws i v)) c
-entry-word ws i v c h = sym (getD-tabulate 4 (λ c. word ws (entryStart c i v)) c 0 h) ∙ ap (λ (l : List ℕ). word l c) (entry-words ws i v)
+entry-word ws i v c h = tabulate-at 4 (λ c. word ws (entryStart c i v)) (entry-words ws i v) c 0 h
 
 module _ (a b : List ℕ) where
   -- the words of a peer, and of its entries, are the same
@@ -242,15 +245,22 @@ hub-injective a b la lb fa fb e = ext-getD 0 a b (la ∙ sym lb) (λ k h. at k (
     slot : (i : ℕ) → i < maxPeers → slotOf a i ≡ slotOf b i
     slot i h = sym (slot-at a i la h) ∙ ap (λ (h : Hub). slotAt h i) e ∙ slot-at b i lb h
 
+    entry : (i v : ℕ) → i < maxPeers → v < maxVectors → entryOf a i v ≡ entryOf b i v
+    entry i v hi hv = sym (entry-at a i v hv) ∙ ap (λ (s : Slot). entryAt s v) (slot i hi) ∙ entry-at b i v hv
+
+    at-settings : (k : ℕ) → k < 10 → word a k ≡ word b k
+    at-settings k h =
+        settings-word a (fa 5) k h ∙ ap (λ (s : Settings). word (settingsWords s) k) settings ∙ sym (settings-word b (fb 5) k h)
+
     at-peer : (i r : ℕ) → i < maxPeers → r < 8 → word a (peerStart i + r) ≡ word b (peerStart i + r)
     at-peer i r hi hr =
         peer-word a i r hr ∙ ap (λ (s : Slot). word (peerWords (s .peer)) r) (slot i hi) ∙ sym (peer-word b i r hr)
 
     at-entry : (c i v : ℕ) → c < 4 → i < maxPeers → v < maxVectors → word a (entryStart c i v) ≡ word b (entryStart c i v)
     at-entry c i v hc hi hv =
-        let entry : entryOf a i v ≡ entryOf b i v =
-        sym (entry-at a i v hv) ∙ ap (λ (s : Slot). entryAt s v) (slot i hi) ∙ entry-at b i v hv in
-        entry-word a i v c hc ∙ ap (λ (e : Entry). word (entryWords e) c) entry ∙ sym (entry-word b i v c hc)
+        entry-word a i v c hc
+        ∙ ap (λ (e : Entry). word (entryWords e) c) (entry i v hi hv)
+        ∙ sym (entry-word b i v c hc)
 
     past-settings : (k : ℕ) → 10 ≤ k → k < hubWords → (t : Bool) → ltb k (10 + 8 * maxPeers) ≡ t → word a k ≡ word b k
     past-settings k low h true t =
@@ -262,8 +272,5 @@ hub-injective a b la lb fa fb e = ext-getD 0 a b (la ∙ sym lb) (λ k h. at k (
         rw (p .place) at (at-entry (p .column) (p .id) (p .vector) (p .column-below) (p .id-below) (p .vector-below))
 
     at : (k : ℕ) → k < hubWords → (t : Bool) → ltb k 10 ≡ t → word a k ≡ word b k
-    at k h true t =
-        tabulate-injective 10 (word a) (word b)
-        (settings-words a (fa 5) ∙ ap settingsWords settings ∙ sym (settings-words b (fb 5)))
-        k (ltb-true k 10 t)
+    at k h true t = at-settings k (ltb-true k 10 t)
     at k h false t = past-settings k (ltb-false k 10 t) h (ltb k (10 + 8 * maxPeers)) refl

@@ -24,15 +24,17 @@ emptied hub i = record { settings = hub .settings; slots = replicate i (resetSlo
 pub slot-kept : (h : Hub) (i : ℕ) → h ≡ withSlot h i (slotAt h i)
 slot-kept h i = λ t. record { settings = h .settings; slots = sym (set-getD (h .slots) i zeroSlot) t }
 
+pub slot-back : (ws : List ℕ) (i : ℕ) (s : Slot) → i < maxPeers → slotAt (withSlot (hubOf ws) i s) i ≡ s
+slot-back ws i s l = getD-set-same (hubOf ws .slots) i s zeroSlot (rw slots-length l)
+
 -- a slot changed twice
 slot-twice : (ws : List ℕ) (i : ℕ) (s : Slot) (f : Slot → Slot) → i < maxPeers
     → withSlot (withSlot (hubOf ws) i s) i (f (slotAt (withSlot (hubOf ws) i s) i)) ≡ withSlot (hubOf ws) i (f s)
 slot-twice ws i s f l =
     let slots : List Slot = hubOf ws .slots in
-    let found : slotAt (withSlot (hubOf ws) i s) i ≡ s = getD-set-same slots i s zeroSlot (rw slots-length l) in
     λ t. record {
       settings = hubOf ws .settings;
-      slots = (set-set slots i s (f (slotAt (withSlot (hubOf ws) i s) i)) ∙ ap (λ (x : Slot). set slots i (f x)) found) t;
+      slots = (set-set slots i s (f (slotAt (withSlot (hubOf ws) i s) i)) ∙ ap (λ (x : Slot). set slots i (f x)) (slot-back ws i s l)) t;
     }
 
 module _ (ws : List ℕ) (now after : Hub) (i : ℕ) (below : i < maxPeers) where
@@ -64,10 +66,10 @@ module _ (ws : List ℕ) (now after : Hub) (i : ℕ) (below : i < maxPeers) wher
       (filled-more i (resetSlot 0) (hubOf ws .slots) (rw slots-length below))
 
 pub emptied-all :
-  (ws : List ℕ) (after : Hub) (s : Settings)
-  → hubOf ws .settings ≡ s
-  → after ≡ emptied (hubOf ws) maxPeers
-  → after ≡ freshHub s
+    (ws : List ℕ) (after : Hub) (s : Settings)
+    → hubOf ws .settings ≡ s
+    → after ≡ emptied (hubOf ws) maxPeers
+    → after ≡ freshHub s
 unfolding freshHub
 emptied-all ws after s was step =
     step
