@@ -1,6 +1,5 @@
 // The MSI-X entries, in four columns.
 use device::Entry;
-
 ghost use mathlib.Core.Path.{_≡_};
 ghost use Prim.Native.Nat.{_+_, _*_, _<_};
 ghost use lib.ListN.{length};
@@ -29,12 +28,7 @@ pub fn entry(hub: &[u32], i: usize, v: usize) -> Entry
 {
     let at = entry_start(i, v);
     let next = column();
-    Entry {
-        low: hub[at],
-        high: hub[at + next],
-        payload: hub[at + 2 * next],
-        control: hub[at + 3 * next],
-    }
+    super::parts::entry_from(hub, at, next)
 }
 
 pub fn put_entry(hub: &mut [u32], i: usize, v: usize, e: Entry)
@@ -44,8 +38,5 @@ pub fn put_entry(hub: &mut [u32], i: usize, v: usize, e: Entry)
 {
     let at = entry_start(i, v);
     let next = column();
-    hub[at] = e.low;
-    hub[at + next] = e.high;
-    hub[at + 2 * next] = e.payload;
-    hub[at + 3 * next] = e.control;
+    super::parts::put_words(hub, at, next, &[e.low, e.high, e.payload, e.control]);
 }

@@ -2,6 +2,7 @@
 // hub that the words are.
 mod entries;
 mod header;
+mod parts;
 mod peers;
 mod slots;
 
@@ -14,7 +15,6 @@ pub use peers::put_peer;
 pub use slots::put_fresh;
 pub use slots::put_reset;
 pub use slots::put_zero;
-
 ghost use mathlib.Core.Path.{_≡_};
 ghost use Rattle.words.specs.Layout.{hubWords};
 

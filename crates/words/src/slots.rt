@@ -1,6 +1,7 @@
 // Whole slots and whole hubs.
-use device::{Entry, Peer, Settings};
-
+use device::Entry;
+use device::Peer;
+use device::Settings;
 ghost use mathlib.Core.Path.{_≡_};
 ghost use Prim.Native.Nat.{_<_};
 ghost use lib.ListN.{length, replicate};

@@ -1,0 +1,4 @@
+pub mod IndexLaws
+pub mod PartLaws
+pub mod LayoutLaws
+pub mod SlotLaws

@@ -1,0 +1,76 @@
+-- What the loops over the vectors and the peers leave: one entry, or one slot, more at its reset value in each turn.
+use Prim.Native.Nat.{ℕ, _+_, _<_}
+use mathlib.Core.List.{List, _++_}
+use mathlib.Core.Path.{_≡_, sym, ap, _∙_}
+use lib.ListN.{set, drop, replicate}
+use lib.Seq.{getD-set-same, set-getD, set-set}
+use Rattle.common.proofs.ListLaws.{filled-more, filled-all}
+use Rattle.device.specs.declared.Entry.{Entry}
+use Rattle.device.specs.declared.Settings.{Settings}
+use Rattle.device.specs.Reset.{resetPeer, resetEntry}
+use Rattle.device.specs.SetUp.{freshHub}
+use Rattle.device.specs.Sizes.{maxPeers, maxVectors}
+use Rattle.device.specs.World.{Hub, Slot, zeroSlot, resetSlot, slotAt, withSlot, withPeer, withEntry}
+use Rattle.words.specs.Layout.{hubOf}
+use Rattle.words.proofs.LayoutLaws.{slots-length, entries-length}
+
+-- a slot with its first v entries at reset, and a hub with its first i slots at reset
+abbrev pub cleared : Slot → ℕ → Slot
+cleared slot v = record { peer = slot .peer; entries = replicate v resetEntry ++ drop v (slot .entries) }
+
+abbrev pub emptied : Hub → ℕ → Hub
+emptied hub i = record { settings = hub .settings; slots = replicate i (resetSlot 0) ++ drop i (hub .slots) }
+
+pub slot-kept : (h : Hub) (i : ℕ) → h ≡ withSlot h i (slotAt h i)
+slot-kept h i = λ t. record { settings = h .settings; slots = sym (set-getD (h .slots) i zeroSlot) t }
+
+pub slot-back : (ws : List ℕ) (i : ℕ) (s : Slot) → i < maxPeers → slotAt (withSlot (hubOf ws) i s) i ≡ s
+slot-back ws i s l = getD-set-same (hubOf ws .slots) i s zeroSlot (rw slots-length l)
+
+-- a slot changed twice
+slot-twice : (ws : List ℕ) (i : ℕ) (s : Slot) (f : Slot → Slot) → i < maxPeers
+    → withSlot (withSlot (hubOf ws) i s) i (f (slotAt (withSlot (hubOf ws) i s) i)) ≡ withSlot (hubOf ws) i (f s)
+slot-twice ws i s f l =
+    let slots : List Slot = hubOf ws .slots in
+    λ t. record {
+      settings = hubOf ws .settings;
+      slots = (set-set slots i s (f (slotAt (withSlot (hubOf ws) i s) i)) ∙ ap (λ (x : Slot). set slots i (f x)) (slot-back ws i s l)) t;
+    }
+
+module _ (ws : List ℕ) (now after : Hub) (i : ℕ) (below : i < maxPeers) where
+  pub cleared-more : (v : ℕ) → v < maxVectors → now ≡ withSlot (hubOf ws) i (cleared (slotAt (hubOf ws) i) v)
+      → after ≡ withSlot now i (withEntry (slotAt now i) v resetEntry)
+      → after ≡ withSlot (hubOf ws) i (cleared (slotAt (hubOf ws) i) (v + 1))
+  cleared-more v l was step =
+      step
+      ∙ ap (λ (h : Hub). withSlot h i (withEntry (slotAt h i) v resetEntry)) was
+      ∙ slot-twice ws i (cleared (slotAt (hubOf ws) i) v) (λ s. withEntry s v resetEntry) below
+      ∙ ap (λ (es : List Entry). withSlot (hubOf ws) i (record { peer = slotAt (hubOf ws) i .peer; entries = es }))
+      (filled-more v resetEntry (slotAt (hubOf ws) i .entries) (rw (entries-length ws i below) l))
+
+  pub cleared-all : (connected : ℕ) → now ≡ withSlot (hubOf ws) i (withPeer (slotAt (hubOf ws) i) (resetPeer connected))
+      → after ≡ withSlot now i (cleared (slotAt now i) maxVectors) → after ≡ withSlot (hubOf ws) i (resetSlot connected)
+  unfolding resetSlot
+  cleared-all connected was step =
+      step
+      ∙ ap (λ (h : Hub). withSlot h i (cleared (slotAt h i) maxVectors)) was
+      ∙ slot-twice ws i (withPeer (slotAt (hubOf ws) i) (resetPeer connected)) (λ s. cleared s maxVectors) below
+      ∙ ap (λ (es : List Entry). withSlot (hubOf ws) i (record { peer = resetPeer connected; entries = es }))
+      (filled-all maxVectors resetEntry (slotAt (hubOf ws) i .entries) (entries-length ws i below))
+
+  pub emptied-more : now ≡ emptied (hubOf ws) i → after ≡ withSlot now i (resetSlot 0) → after ≡ emptied (hubOf ws) (i + 1)
+  emptied-more was step =
+      step
+      ∙ ap (λ (h : Hub). withSlot h i (resetSlot 0)) was
+      ∙ ap (λ (slots : List Slot). record { settings = hubOf ws .settings; slots = slots })
+      (filled-more i (resetSlot 0) (hubOf ws .slots) (rw slots-length below))
+
+pub emptied-all :
+    (ws : List ℕ) (after : Hub) (s : Settings)
+    → hubOf ws .settings ≡ s
+    → after ≡ emptied (hubOf ws) maxPeers
+    → after ≡ freshHub s
+unfolding freshHub
+emptied-all ws after s was step =
+    step
+    ∙ (λ t. record { settings = was t; slots = filled-all maxPeers (resetSlot 0) (hubOf ws .slots) (slots-length ws) t })
