@@ -13,6 +13,8 @@ use Rattle.common.proofs.TestLaws.{every-true}
 use Rattle.device.specs.declared.Settings.{Settings}
 use Rattle.device.specs.SetUp.{accepted, total, paged, sixteenBits}
 use Rattle.device.specs.Sizes.{maxPeers, maxVectors}
+use Rattle.device.specs.Sound.{sound}
+use Rattle.device.specs.World.{zeroHub}
 use Rattle.device.proofs.SizeLaws.{maxPeers-small, maxVectors-small}
 
 pub record Accepted (s : Settings) : Type 0 where
@@ -80,3 +82,8 @@ unfolding total
 output-small s a =
     let h : 2 * s .output ≤ s .peers * s .output = mul-le-mul-right (s .output) (a .two) in
     omega (arith, a .whole)
+
+-- the all-zero hub is not sound: its settings would not be accepted
+pub zero-unsound : sound zeroHub ≡ false
+unfolding sound zeroHub accepted every
+zero-unsound = refl

@@ -1,7 +1,12 @@
+-- `memory::clear` meets its contract. The loop's invariant: the bytes passed are zero, the others as they were.
+use Prim.Native.Nat.{ℕ, suc, _+_, _-_, _≤_, _<_}
+use mathlib.Core.List.{_++_}
+use mathlib.Core.Path.{_≡_, refl, sym, ap, _∙_}
+use native.Mathlib.Omega.{arith}
+use lib.ListN.{length, length-set, drop, replicate}
+use Rattle.common.proofs.ListLaws.{filled-more, filled-all}
 use Rattle.memory.proofs.clear.Statement.{statement}
 use Rattle.memory.proofs.clear.Tie as tie
-use Rattle.memory.proofs.clear.Reads as reads
-use Rattle.memory.proofs.clear.Lts as lts
 
 abbrev Inv-loop : tie.InvT-loop
 Inv-loop region₀ k₀ region k =
@@ -10,33 +15,29 @@ Inv-loop region₀ k₀ region k =
 abbrev μ-loop : tie.MeasureT-loop
 μ-loop region₀ k₀ region k = length region₀ - k
 
--- src/lib.rt:12:5
 loop-holds : tie.Need-loop-holds Inv-loop μ-loop
-loop-holds c = ?
+loop-holds c = (omega arith, refl, refl)
 
--- src/lib.rt:13:9
 slice-write-region : tie.Need-slice-write-region Inv-loop μ-loop
-slice-write-region c = ?
+slice-write-region c = omega arith
 
--- src/lib.rt:14:9
 add-k : tie.Need-add-k Inv-loop μ-loop
-add-k c = ?
+add-k c = omega arith
 
--- src/lib.rt:12:5
 loop-less : tie.Need-loop-less Inv-loop μ-loop
-loop-less c = ?
+loop-less c = omega arith
 
--- src/lib.rt:12:5
 loop-again : tie.Need-loop-again Inv-loop μ-loop
-loop-again c = ?
+loop-again c =
+    (omega arith, simp length-set (omega arith), rw (c .before .loop .inv .2) (filled-more (c .before .loop .k) 0 (c .before .before .args .region .now) (omega arith)))
 
--- src/lib.rt:8:1
 same-length : tie.Need-same-length Inv-loop μ-loop
-same-length c = ?
+same-length c = c .before .loop .inv .1
 
--- src/lib.rt:8:1
 returns : tie.Need-returns Inv-loop μ-loop
-returns c = ?
+returns c =
+    let e : c .before .loop .k ≡ length (c .before .before .args .region .now) = omega arith in
+    c .before .loop .inv .2 ∙ filled-all (c .before .loop .k) 0 (c .before .before .args .region .now) (sym e) ∙ ap (λ (n : ℕ). replicate n 0) e
 
 pub clear-spec : {M : Type 1} → statement M
 clear-spec =
