@@ -12,8 +12,7 @@ hub-words-requires c κs = search needs
 
 returns : tie.Need-returns
 returns c =
-    let other = λ e. c .if1 .taken (e ∙ sym (c .before .hub-words .ensures)) in
-    ?
+    rw (other-length (c .before .before .before .args .hub .now) (λ e. c .if1 .taken (e ∙ sym (c .before .hub-words .ensures)))) (sym zero-unsound)
 
 settings-requires : tie.Need-settings-requires
 settings-requires c κs = search needs
