@@ -1,6 +1,15 @@
 // One ring: the target's switches, and what a delivery leaves.
+use device::Delivery;
+
+mod rings;
 mod switches;
 
-pub use switches::delivery_of;
-pub use switches::gate_of;
-pub use switches::opens;
+pub use rings::ring;
+
+use switches::{delivery_of, gate_of, opens};
+
+// What became of a ring.
+pub enum RingOutcome {
+    Delivered(Delivery),
+    Lost,
+}

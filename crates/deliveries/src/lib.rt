@@ -1,0 +1,73 @@
+// Deliveries by value, in ring order, and the rings at every other id.
+use device::{Delivery, PeerId, Vector};
+use gate::RingOutcome;
+
+ghost use mathlib.Core.Path.{_≡_};
+ghost use mathlib.Core.List.{[]};
+ghost use Rattle.device.specs.Ring as Ring;
+ghost use Rattle.words.specs.Layout.{hubOf};
+ghost use Rattle.gate.specs.RingOutcome.{outcomeList, Usable};
+ghost use Rattle.deliveries.specs.Listed.{listed};
+
+// A call rings each id at most once.
+pub struct Deliveries {
+    pub count: usize,
+    pub records: [Delivery; device::MAX_PEERS],
+}
+
+fn nothing() -> Delivery {
+    Delivery {
+        target: PeerId(0),
+        vector: Vector(0),
+        address: 0,
+        payload: 0,
+    }
+}
+
+pub fn none() -> Deliveries
+    ensures { λ r. ⌜ listed r ≡ [] ⌝ }
+{
+    Deliveries {
+        count: 0,
+        records: [nothing(); device::MAX_PEERS],
+    }
+}
+
+// One ring, and its deliveries: one or none.
+pub fn ring_one(hub: &mut [u32], t: PeerId, v: Vector) -> Deliveries
+    requires { ⌜ Usable (now hub) ⌝ }
+    ensures hub { λ r. ⌜ hubOf (now (hub .exit)) ≡ Ring.ring (hubOf (now (hub .entry))) t v .hub ⌝ }
+    ensures deliveries { λ r. ⌜ listed r ≡ Ring.ring (hubOf (now (hub .entry))) t v .deliveries ⌝ }
+{
+    let mut list = none();
+    match gate::ring(hub, t, v) {
+        RingOutcome::Delivered(d) => {
+            list.records[0] = d;
+            list.count = 1;
+            list
+        }
+        RingOutcome::Lost => list,
+    }
+}
+
+// Vector 0 rung at every other id, ascending.
+pub fn ring_others(hub: &mut [u32], who: u64) -> Deliveries
+    requires { ⌜ Usable (now hub) ⌝ }
+    ensures hub { λ r. ⌜ hubOf (now (hub .exit)) ≡ Ring.ringOthers who (hubOf (now (hub .entry))) .hub ⌝ }
+    ensures deliveries { λ r. ⌜ listed r ≡ Ring.ringOthers who (hubOf (now (hub .entry))) .deliveries ⌝ }
+{
+    let peers = words::settings(hub).peers;
+    let mut list = none();
+    let mut i: u64 = 0;
+    while i < peers {
+        if i != who {
+            if let RingOutcome::Delivered(d) = gate::ring(hub, PeerId(i as u32), Vector(0)) {
+                let at = list.count;
+                list.records[at] = d;
+                list.count = at + 1;
+            }
+        }
+        i += 1;
+    }
+    list
+}
