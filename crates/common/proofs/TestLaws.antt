@@ -2,12 +2,12 @@
 use Prim.Native.Nat.{ℕ, zero, suc, _+_, _<_, _≤_}
 use mathlib.Core.Bool.{Bool, true, false, cond, _&&_}
 use mathlib.Core.Path.{_≡_, refl, sym, ap, subst, _∙_}
-use mathlib.Core.List.{List, [], _∷_}
+use mathlib.Core.List.{List, [], _∷_, _++_}
 use native.Mathlib.Omega.{arith}
 use lib.Dec.{leb, ltb}
 use borrow.Author.Tests.{leb-true, ltb-true}
 use lib.ListN.{length, getD}
-use Rattle.common.specs.Tests.{Row, first, everyAfter, every, below}
+use Rattle.common.specs.Tests.{Row, row, first, everyAfter, every, below}
 
 pub and-left : (a b : Bool) → a && b ≡ true → a ≡ true
 and-left true b e = refl
@@ -55,3 +55,51 @@ every-true bs e k = by (getD bs k true) refl
 pub and-false : (a b : Bool) → b ≡ false → (a && b) ≡ false
 and-false true b e = e
 and-false false b e = refl
+
+-- Rows in two parts. What the first part gives, where it gives anything, and what the second gives where the first gives nothing.
+pub first-stops : (xs ys : List Row) → (first xs ≡ 0 → ⊥) → first (xs ++ ys) ≡ first xs
+unfolding first
+first-stops [] ys h = absurd (h refl)
+first-stops (x ∷ xs) ys h = by (x .holds) refl (λ k. first-stops xs ys k) h
+  where
+    by : (b : Bool) → x .holds ≡ b → ((first xs ≡ 0 → ⊥) → first (xs ++ ys) ≡ first xs) →
+        (cond (x .holds) (x .number) (first xs) ≡ 0 → ⊥) →
+        cond (x .holds) (x .number) (first (xs ++ ys)) ≡ cond (x .holds) (x .number) (first xs)
+    by true e later k = rw e
+    by false e later k = rw e (later (rw e at k))
+
+-- no row gives 0
+abbrev pub positive : List Row → Bool
+positive [] = true
+positive (x ∷ xs) = ltb 0 (x .number) && positive xs
+
+split-row : (x : Row) (n : ℕ) → ltb 0 (x .number) ≡ true → cond (x .holds) (x .number) n ≡ 0 → (x .holds ≡ false) × (n ≡ 0)
+split-row x n p e = by (x .holds) refl
+  where
+    by : (b : Bool) → x .holds ≡ b → (x .holds ≡ false) × (n ≡ 0)
+    by true f = let z : x .number ≡ 0 = rw f at e in absurd (omega (arith, ltb-true 0 (x .number) p))
+    by false f = (f, rw f at e)
+
+pub first-none : (xs : List Row) → positive xs ≡ true → first xs ≡ 0 → (k : ℕ) → getD xs k (row 0 false) .holds ≡ false
+unfolding first
+first-none [] p e k = refl
+first-none (x ∷ xs) p e zero = split-row x (first xs) (and-left (ltb 0 (x .number)) (positive xs) p) e .0
+first-none (x ∷ xs) p e (suc k) =
+    first-none xs (and-right (ltb 0 (x .number)) (positive xs) p)
+    (split-row x (first xs) (and-left (ltb 0 (x .number)) (positive xs) p) e .1) k
+
+pub first-goes-on : (xs ys : List Row) → positive xs ≡ true → first xs ≡ 0 → first (xs ++ ys) ≡ first ys
+unfolding first
+first-goes-on [] ys p e = refl
+first-goes-on (x ∷ xs) ys p e =
+    let s = split-row x (first xs) (and-left (ltb 0 (x .number)) (positive xs) p) e in
+    rw (s .0) (first-goes-on xs ys (and-right (ltb 0 (x .number)) (positive xs) p) (s .1))
+
+-- both parts give nothing where the whole does
+pub first-parts : (xs ys : List Row) → positive xs ≡ true → first (xs ++ ys) ≡ 0 → (first xs ≡ 0) × (first ys ≡ 0)
+unfolding first
+first-parts [] ys p e = (refl, e)
+first-parts (x ∷ xs) ys p e =
+    let s = split-row x (first (xs ++ ys)) (and-left (ltb 0 (x .number)) (positive xs) p) e in
+    let t = first-parts xs ys (and-right (ltb 0 (x .number)) (positive xs) p) (s .1) in
+    (rw (s .0) (t .0), t .1)

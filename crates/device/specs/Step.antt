@@ -6,6 +6,7 @@ use lib.Seq.{sets}
 use Rattle.device.specs.declared.Delivery.{Delivery}
 use Rattle.device.specs.declared.Reply.{Reply}
 use Rattle.device.specs.declared.SectionAnswer.{SectionAnswer}
+use Rattle.device.specs.declared.SectionReply.{SectionReply}
 use Rattle.device.specs.Call.{Call}
 use Rattle.device.specs.Effect.{Effect, Operation, effect}
 use Rattle.device.specs.Refusal.{refusal}
@@ -73,3 +74,6 @@ step w c = stepBy (refusal w c) w c
 -- number and value, as a call returns them
 abbrev pub replyOf : Outcome → Reply
 replyOf o = record { number = o .number; value = o .value }
+
+abbrev pub sectionReplyOf : Outcome → SectionReply
+sectionReplyOf o = record { reply = replyOf o; section = o .answer }

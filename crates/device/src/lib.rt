@@ -157,3 +157,9 @@ pub struct Reply {
     pub number: u32,
     pub value: u32,
 }
+
+// The same for the section question.
+pub struct SectionReply {
+    pub reply: Reply,
+    pub section: SectionAnswer,
+}

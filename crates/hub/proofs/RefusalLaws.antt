@@ -1,0 +1,119 @@
+-- The parts of the checks are together the table of refusals, and what an admitted call is known to satisfy.
+use Prim.Native.Nat.{ℕ, _+_, _<_, _≤_}
+use mathlib.Core.Bool.{Bool, true, false, not}
+use mathlib.Core.List.{List, [], _∷_, _++_}
+use mathlib.Core.Path.{_≡_, refl, sym, ap, _∙_}
+use native.Mathlib.Omega.{arith}
+use lib.Dec.{eqb, leb}
+use lib.ListN.{length, getD}
+use borrow.Author.Tests.{eqb-true, leb-false, ltb-false, not-false}
+use Rattle.common.specs.Tests.{Row, row, first}
+use Rattle.common.proofs.TestLaws.{first-none, first-parts}
+use Rattle.device.specs.Call.{Act, call}
+use Rattle.device.specs.Refusal.{lentTo, accessOf, wrongRegion, shortTable, missing, present, wrongWidth, misaligned, outside, forbidden, isConnected, refusal}
+use Rattle.device.specs.SetUp.{accepted}
+use Rattle.device.specs.Sizes.{maxPeers}
+use Rattle.device.specs.Sound.{sound}
+use Rattle.device.specs.World.{Hub, world, slotAt}
+use Rattle.device.proofs.SetUpLaws.{Accepted, accepted-facts}
+use Rattle.soundness.proofs.WholeLaws.{sound-numbers, sound-room}
+use Rattle.words.specs.Layout.{hubWords, hubOf}
+use Rattle.hub.specs.Admission.{admission, joiningRows, spaceRows, rangeRows, anyWidth, Admitted, Inside}
+
+known-caller : (ws : List ℕ) (id : ℕ) → not (sound (hubOf ws)) ≡ false → leb (hubOf ws .settings .peers) id ≡ false → Admitted ws id
+known-caller ws id n l =
+    let s = not-false _ n in
+    let k : id < hubOf ws .settings .peers = leb-false _ _ l in
+    record
+    { room = sound-room ws s
+    ; numbers = sound-numbers (hubOf ws) s
+    ; known = k
+    ; slot = omega (arith, accepted-facts (hubOf ws .settings) (sound-numbers (hubOf ws) s) .peers) }
+
+pub admitted-facts : (ws : List ℕ) (regional : Bool) (region : ℕ) (tabled : Bool) (records id : ℕ) →
+    first (admission (hubOf ws) regional region tabled records id) ≡ 0 → Admitted ws id
+admitted-facts ws regional region tabled records id e =
+    let none = first-none (admission (hubOf ws) regional region tabled records id) refl e in
+    known-caller ws id (none 0) (none 3)
+
+-- the same beside the number itself, as the code promises it
+pub with-facts : (ws : List ℕ) (regional : Bool) (region : ℕ) (tabled : Bool) (records id r : ℕ) →
+    r ≡ first (admission (hubOf ws) regional region tabled records id) →
+    (r ≡ first (admission (hubOf ws) regional region tabled records id)) × (r ≡ 0 → Admitted ws id)
+with-facts ws regional region tabled records id r e =
+    (e, λ z. admitted-facts ws regional region tabled records id (sym e ∙ z))
+
+-- a call that is lent nothing and reaches for configuration space
+pub configuration-refusal : (h : Hub) (region : List ℕ) (id at w : ℕ) →
+    refusal (world h region) (call id (Act.configurationRead at w))
+    ≡ first (admission h false 0 false 0 id ++ spaceRows 256 (anyWidth w) at w)
+unfolding refusal first lentTo accessOf wrongRegion shortTable missing present wrongWidth misaligned outside forbidden isConnected
+configuration-refusal h region id at w = refl
+
+pub register-refusal : (h : Hub) (region : List ℕ) (id at w : ℕ) →
+    refusal (world h region) (call id (Act.registerRead at w))
+    ≡ first (admission h false 0 false 0 id ++ spaceRows 4096 (eqb w 4) at w)
+unfolding refusal first lentTo accessOf wrongRegion shortTable missing present wrongWidth misaligned outside forbidden isConnected
+register-refusal h region id at w = refl
+
+pub msix-refusal : (h : Hub) (region : List ℕ) (id at w : ℕ) →
+    refusal (world h region) (call id (Act.msixRead at w))
+    ≡ first (admission h false 0 false 0 id ++ spaceRows 4096 (eqb w 4) at w)
+unfolding refusal first lentTo accessOf wrongRegion shortTable missing present wrongWidth misaligned outside forbidden isConnected
+msix-refusal h region id at w = refl
+
+pub question-refusal : (h : Hub) (region : List ℕ) (id at n : ℕ) →
+    refusal (world h region) (call id (Act.question at n))
+    ≡ first (admission h false 0 false 0 id ++ rangeRows (h .settings) at n)
+unfolding refusal first lentTo accessOf wrongRegion shortTable missing present wrongWidth misaligned outside forbidden isConnected
+question-refusal h region id at n = refl
+
+-- an access to a space that is not refused
+module _ (ws : List ℕ) (id size : ℕ) (allowed : Bool) (at w : ℕ)
+    (e : first (admission (hubOf ws) false 0 false 0 id ++ spaceRows size allowed at w) ≡ 0) where
+  pub space-admitted : Admitted ws id
+  space-admitted =
+      admitted-facts ws false 0 false 0 id
+      (first-parts (admission (hubOf ws) false 0 false 0 id) (spaceRows size allowed at w) refl e .0)
+
+  pub space-inside : Inside size allowed at w
+  space-inside =
+      let none =
+          first-none (spaceRows size allowed at w) refl
+          (first-parts (admission (hubOf ws) false 0 false 0 id) (spaceRows size allowed at w) refl e .1) in
+      record { width = not-false allowed (none 0); fits = ltb-false _ _ (none 2) }
+
+pub space-facts : (ws : List ℕ) (id size : ℕ) (allowed : Bool) (at w r : ℕ) →
+    r ≡ first (admission (hubOf ws) false 0 false 0 id ++ spaceRows size allowed at w) →
+    (r ≡ first (admission (hubOf ws) false 0 false 0 id ++ spaceRows size allowed at w))
+    × ((r ≡ 0 → Admitted ws id) × (r ≡ 0 → Inside size allowed at w))
+space-facts ws id size allowed at w r e =
+    (e
+    , (λ z. space-admitted ws id size allowed at w (sym e ∙ z)
+    , λ z. space-inside ws id size allowed at w (sym e ∙ z)))
+
+-- the widths of configuration space
+pub any-width : (w : ℕ) → anyWidth w ≡ true → (0 < w) × (w ≤ 4)
+any-width w e = one (eqb w 1) refl
+  where
+    four : eqb w 1 ≡ false → eqb w 2 ≡ false → (0 < w) × (w ≤ 4)
+    four a b = let h : w ≡ 4 = eqb-true _ _ (rw (a, b) at e) in omega arith
+    two : eqb w 1 ≡ false → (b : Bool) → eqb w 2 ≡ b → (0 < w) × (w ≤ 4)
+    two a true f = let h : w ≡ 2 = eqb-true _ _ f in omega arith
+    two a false f = four a f
+    one : (b : Bool) → eqb w 1 ≡ b → (0 < w) × (w ≤ 4)
+    one true f = let h : w ≡ 1 = eqb-true _ _ f in omega arith
+    one false f = two f (eqb w 2) refl
+
+pub connect-refusal : (h : Hub) (region : List ℕ) (id : ℕ) →
+    refusal (world h region) (call id Act.connect) ≡ first (joiningRows h id)
+unfolding refusal first lentTo accessOf wrongRegion shortTable missing present wrongWidth misaligned outside forbidden isConnected
+connect-refusal h region id = refl
+
+pub joining-facts : (ws : List ℕ) (id r : ℕ) → r ≡ first (joiningRows (hubOf ws) id) →
+    (r ≡ first (joiningRows (hubOf ws) id)) × (r ≡ 0 → Admitted ws id)
+joining-facts ws id r e =
+    (e
+    , λ z.
+    let none = first-none (joiningRows (hubOf ws) id) refl (sym e ∙ z) in
+    known-caller ws id (none 0) (none 1))

@@ -1,0 +1,35 @@
+-- The replies of a refused and of an accepted call.
+use Prim.Native.Nat.{ℕ}
+use mathlib.Core.Path.{_≡_, refl, sym, ap, _∙_}
+use Rattle.device.specs.declared.Reply.{Reply}
+use Rattle.device.specs.declared.SectionReply.{SectionReply}
+use Rattle.device.specs.Call.{Call}
+use Rattle.device.specs.Refusal.{refusal}
+use Rattle.device.specs.Sections.{noSection}
+use Rattle.device.specs.Step.{Outcome, step, refused, replyOf, sectionReplyOf, effectIn}
+use Rattle.device.specs.World.{World}
+use Rattle.device.proofs.StepLaws.{refused-changes-nothing, accepted-effect}
+
+abbrev pub refusedBy : ℕ → Reply
+refusedBy n = record { number = n; value = 0 }
+
+pub step-refused : (w : World) (c : Call) (n : ℕ) → refusal w c ≡ n → (n ≡ 0 → ⊥) → step w c ≡ refused n w
+step-refused w c n e h =
+    refused-changes-nothing w c (λ z. h (sym e ∙ z)) ∙ ap (λ (k : ℕ). refused k w) e
+
+pub reply-refused : (w : World) (c : Call) (n : ℕ) → refusal w c ≡ n → (n ≡ 0 → ⊥) → refusedBy n ≡ replyOf (step w c)
+reply-refused w c n e h = sym (ap (λ (o : Outcome). replyOf o) (step-refused w c n e h))
+
+pub reply-accepted : (w : World) (c : Call) (value : ℕ) → refusal w c ≡ 0 → value ≡ effectIn w c .value →
+    _≡_ {A = Reply} (record { number = 0; value = value }) (replyOf (step w c))
+reply-accepted w c value e v = rw v (sym (ap (λ (o : Outcome). replyOf o) (accepted-effect w c e)))
+
+pub question-refused : (w : World) (c : Call) (n : ℕ) → refusal w c ≡ n → (n ≡ 0 → ⊥) →
+    _≡_ {A = SectionReply} (record { reply = refusedBy n; section = noSection }) (sectionReplyOf (step w c))
+question-refused w c n e h = sym (ap (λ (o : Outcome). sectionReplyOf o) (step-refused w c n e h))
+
+pub question-accepted : (w : World) (c : Call) → refusal w c ≡ 0 →
+    _≡_ {A = SectionReply}
+    (record { reply = record { number = 0; value = effectIn w c .value }; section = effectIn w c .answer })
+    (sectionReplyOf (step w c))
+question-accepted w c e = sym (ap (λ (o : Outcome). sectionReplyOf o) (accepted-effect w c e))

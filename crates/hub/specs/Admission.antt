@@ -1,0 +1,62 @@
+-- The checks of 'When the hub says no' in the parts that the code makes: those of the hub, of what is lent and of the id, and
+-- those of an access. proofs/RefusalLaws.antt shows that together they are the table.
+use Prim.Native.Nat.{ℕ, _+_, _%_, _<_, _≤_}
+use mathlib.Core.Bool.{Bool, true, not, _&&_, _||_}
+use mathlib.Core.List.{List, [], _∷_}
+use mathlib.Core.Path.{_≡_}
+use lib.Dec.{eqb, leb, ltb}
+use lib.ListN.{length}
+use Rattle.common.specs.Tests.{Row, row}
+use Rattle.device.specs.declared.Settings.{Settings}
+use Rattle.device.specs.Sections.{sectionOf, somewhere}
+use Rattle.device.specs.SetUp.{accepted, total}
+use Rattle.device.specs.Sizes.{maxPeers}
+use Rattle.device.specs.Sound.{sound}
+use Rattle.device.specs.World.{Hub, slotAt}
+use Rattle.words.specs.Layout.{hubWords, hubOf}
+
+-- whether the region is lent, and its length; whether a delivery table is lent, and its records
+abbrev pub admission : Hub → Bool → ℕ → Bool → ℕ → ℕ → List Row
+admission hub regional region tabled records who =
+    row 10 (not (sound hub))
+    ∷ row 2 (regional && not (eqb region (total (hub .settings))))
+    ∷ row 11 (tabled && ltb records (hub .settings .peers))
+    ∷ row 3 (leb (hub .settings .peers) who)
+    ∷ row 4 (not (eqb (slotAt hub who .peer .connected) 1))
+    ∷ []
+
+-- connect: 5 in the place of 4
+abbrev pub joiningRows : Hub → ℕ → List Row
+joiningRows hub who =
+    row 10 (not (sound hub))
+    ∷ row 3 (leb (hub .settings .peers) who)
+    ∷ row 5 (eqb (slotAt hub who .peer .connected) 1)
+    ∷ []
+
+-- an access to a space of `size` bytes, of a width that is allowed there or not
+abbrev pub spaceRows : ℕ → Bool → ℕ → ℕ → List Row
+spaceRows size allowed offset width =
+    row 6 (not allowed) ∷ row 7 (not (eqb (offset % width) 0)) ∷ row 8 (ltb size (offset + width)) ∷ []
+
+abbrev pub anyWidth : ℕ → Bool
+anyWidth width = eqb width 1 || eqb width 2 || eqb width 4
+
+-- a range of the shared region
+abbrev pub rangeRows : Settings → ℕ → ℕ → List Row
+rangeRows s offset length = row 6 (eqb length 0) ∷ row 8 (not (somewhere (sectionOf s offset length))) ∷ []
+
+-- what is known of a caller that these checks let pass, and of its access to a space
+pub record Admitted (ws : List ℕ) (id : ℕ) : Type 0 where
+  pub room : length ws ≡ hubWords
+  pub numbers : accepted (hubOf ws .settings) ≡ true
+  pub known : id < hubOf ws .settings .peers
+  pub slot : id < maxPeers
+
+pub record Inside (size : ℕ) (allowed : Bool) (at w : ℕ) : Type 0 where
+  pub width : allowed ≡ true
+  pub fits : at + w ≤ size
+
+-- what is known of a set-up that is accepted
+pub record SetUpFacts (words : ℕ) (s : Settings) : Type 0 where
+  pub room : words ≡ hubWords
+  pub numbers : accepted s ≡ true

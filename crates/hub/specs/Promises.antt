@@ -1,0 +1,50 @@
+-- What the public calls promise: their answers, and what they leave, are the parts of `step`.
+use Prim.Native.Nat.{ℕ}
+use mathlib.Core.List.{List}
+use mathlib.Core.Path.{_≡_}
+use lib.Dec.{eqb}
+use lib.ListN.{length, replicate}
+use Rattle.device.specs.declared.Reply.{Reply}
+use Rattle.device.specs.declared.SectionReply.{SectionReply}
+use Rattle.device.specs.declared.Settings.{Settings}
+use Rattle.device.specs.Call.{Call}
+use Rattle.device.specs.SetUp.{setUpRefusal, hubAfterSetUp, regionAfterSetUp}
+use Rattle.device.specs.Step.{step, replyOf, sectionReplyOf}
+use Rattle.device.specs.World.{world}
+use Rattle.words.specs.Layout.{hubWords, hubOf}
+
+-- A read: the region is not lent, and the answer is the same whatever it holds.
+abbrev pub Answers : List ℕ → Call → Reply → Type 0
+Answers hub c r = (region : List ℕ) → r ≡ replyOf (step (world (hubOf hub) region) c)
+
+abbrev pub AnswersQuestion : List ℕ → Call → SectionReply → Type 0
+AnswersQuestion hub c r = (region : List ℕ) → r ≡ sectionReplyOf (step (world (hubOf hub) region) c)
+
+-- A call that changes the hub and is not lent the region. A refusal leaves each word as it was.
+pub record Changes (before after : List ℕ) (c : Call) (r : Reply) : Type 0 where
+  pub reply : (region : List ℕ) → r ≡ replyOf (step (world (hubOf before) region) c)
+  pub hub : (region : List ℕ) → hubOf after ≡ step (world (hubOf before) region) c .world .hub
+  pub kept : (r .number ≡ 0 → ⊥) → after ≡ before
+
+-- the set-up numbers in the order of the rules: N, V, S, R, O, base, protocol type, subsystem vendor, subsystem id
+abbrev pub numbers : ℕ → ℕ → ℕ → ℕ → ℕ → ℕ → ℕ → ℕ → ℕ → Settings
+numbers n v s r o base protocol vendor subsystem =
+    record
+    { peers = n
+    ; vectors = v
+    ; table = s
+    ; common = r
+    ; output = o
+    ; base = base
+    ; protocol = protocol
+    ; vendor = vendor
+    ; subsystem = subsystem }
+
+-- Set-up. Refused for its numbers or the region's length it leaves all words zero; refused for the words' own length it leaves
+-- them as they were.
+pub record SetsUp (before after regionBefore regionAfter : List ℕ) (s : Settings) (r : Reply) : Type 0 where
+  pub reply : r ≡ record { number = setUpRefusal (eqb (length before) hubWords) s regionBefore; value = 0 }
+  pub hub : hubOf after ≡ hubAfterSetUp (r .number) s
+  pub region : regionAfter ≡ regionAfterSetUp (r .number) regionBefore
+  pub zero : (r .number ≡ 0 → ⊥) → (r .number ≡ 10 → ⊥) → after ≡ replicate (length before) 0
+  pub kept : r .number ≡ 10 → after ≡ before

@@ -1,0 +1,11 @@
+// The calls of the hub. Each answers for any input, refuses by the number of the rules, and promises the parts of `step`.
+mod joining;
+mod reads;
+mod refusals;
+
+pub use joining::connect;
+pub use joining::set_up;
+pub use reads::configuration_read;
+pub use reads::msix_read;
+pub use reads::register_read;
+pub use reads::section_question;

@@ -1,0 +1,98 @@
+// The calls that only read.
+use super::refusals;
+use device::{Reply, SectionAnswer, SectionKind, SectionReply};
+
+ghost use mathlib.Core.Path.{_≡_};
+ghost use Rattle.device.specs.Call.{call};
+ghost use Rattle.device.specs.Call as Call;
+ghost use Rattle.device.specs.Sections.{noSection};
+ghost use Rattle.hub.specs.Promises.{Answers, AnswersQuestion};
+
+pub fn configuration_read(hub: &[u32], id: u64, offset: u64, width: u64) -> Reply
+    ensures { λ r. ⌜ Answers (now (hub .entry)) (call id (Call.Act.configurationRead offset width)) r ⌝ }
+{
+    let allowed = (width == 1) | (width == 2) | (width == 4);
+    let number = refusals::space_refusal(hub, id, 256, allowed, offset, width);
+    if number != 0 {
+        return refusals::refused(number);
+    }
+    let s = words::settings(hub);
+    let p = words::peer(hub, id as usize);
+    let value = configuration::read(s, p, offset, width);
+    Reply {
+        number: 0,
+        value: value as u32,
+    }
+}
+
+pub fn register_read(hub: &[u32], id: u64, offset: u64, width: u64) -> Reply
+    ensures { λ r. ⌜ Answers (now (hub .entry)) (call id (Call.Act.registerRead offset width)) r ⌝ }
+{
+    let number = refusals::space_refusal(hub, id, 4096, width == 4, offset, width);
+    if number != 0 {
+        return refusals::refused(number);
+    }
+    let s = words::settings(hub);
+    let p = words::peer(hub, id as usize);
+    let value = registers::read(s, id, p, offset);
+    Reply {
+        number: 0,
+        value: value as u32,
+    }
+}
+
+pub fn msix_read(hub: &[u32], id: u64, offset: u64, width: u64) -> Reply
+    ensures { λ r. ⌜ Answers (now (hub .entry)) (call id (Call.Act.msixRead offset width)) r ⌝ }
+{
+    let number = refusals::space_refusal(hub, id, 4096, width == 4, offset, width);
+    if number != 0 {
+        return refusals::refused(number);
+    }
+    let on = registers::memory_on(words::peer(hub, id as usize));
+    if !on {
+        return Reply {
+            number: 0,
+            value: 0xFFFFFFFF,
+        };
+    }
+    let inside = msix::in_table(words::settings(hub), offset);
+    if !inside {
+        return Reply { number: 0, value: 0 };
+    }
+    let e = words::entry(hub, id as usize, (offset / 16) as usize);
+    Reply {
+        number: 0,
+        value: msix::word(e, offset % 16 / 4),
+    }
+}
+
+// A refused question names no section and says no.
+fn unanswered(number: u32) -> SectionReply
+    ensures { λ r. ⌜ r ≡ record { reply = record { number = number; value = 0 }; section = noSection } ⌝ }
+{
+    let reply = refusals::refused(number);
+    let section = SectionAnswer {
+        kind: SectionKind::Nothing,
+        store: false,
+    };
+    SectionReply { reply, section }
+}
+
+// Which section a range lies in, and whether the asking peer may store to it.
+pub fn section_question(hub: &[u32], id: u64, offset: u64, length: u64) -> SectionReply
+    ensures { λ r. ⌜ AnswersQuestion (now (hub .entry)) (call id (Call.Act.question offset length)) r ⌝ }
+{
+    let number = refusals::admitted(hub, false, 0, false, 0, id);
+    if number != 0 {
+        return unanswered(number);
+    }
+    let s = words::settings(hub);
+    let number = refusals::range(s, offset, length);
+    if number != 0 {
+        return unanswered(number);
+    }
+    let kind = sections::section_of(s, offset, length);
+    let section = sections::answer(id, kind);
+    let reply = refusals::refused(0);
+    SectionReply { reply, section }
+}
