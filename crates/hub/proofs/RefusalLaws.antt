@@ -10,7 +10,7 @@ use borrow.Author.Tests.{eqb-true, leb-false, ltb-false, not-false}
 use Rattle.common.specs.Tests.{Row, row, first}
 use Rattle.common.proofs.TestLaws.{first-none, first-parts}
 use Rattle.device.specs.Call.{Act, call}
-use Rattle.device.specs.Refusal.{lentTo, accessOf, wrongRegion, shortTable, missing, present, wrongWidth, misaligned, outside, forbidden, isConnected, refusal}
+use Rattle.device.specs.Refusal.{Lent, Access, checks, lentTo, accessOf, wrongRegion, shortTable, missing, present, wrongWidth, misaligned, outside, forbidden, isConnected, refusal}
 use Rattle.device.specs.SetUp.{accepted}
 use Rattle.device.specs.Sizes.{maxPeers}
 use Rattle.device.specs.Sound.{sound}
@@ -43,25 +43,27 @@ pub with-facts : (ws : List ℕ) (regional : Bool) (region : ℕ) (tabled : Bool
 with-facts ws regional region tabled records id r e =
     (e, λ z. admitted-facts ws regional region tabled records id (sym e ∙ z))
 
--- a call that is lent nothing and reaches for configuration space
-pub configuration-refusal : (h : Hub) (region : List ℕ) (id at w : ℕ) →
-    refusal (world h region) (call id (Act.configurationRead at w))
-    ≡ first (admission h false 0 false 0 id ++ spaceRows 256 (anyWidth w) at w)
-unfolding refusal first lentTo accessOf wrongRegion shortTable missing present wrongWidth misaligned outside forbidden isConnected
-configuration-refusal h region id at w = refl
+-- The table for each kind of access, over the call that makes it.
+by-kind : (h : Hub) (region : List ℕ) (id : ℕ) (act : Act) (lent : Lent) (access : Access) →
+    lentTo act ≡ lent → accessOf act ≡ access → refusal (world h region) (call id act) ≡ first (checks (world h region) id lent access)
+unfolding refusal
+by-kind h region id act lent access l a = rw (l, a)
 
-pub register-refusal : (h : Hub) (region : List ℕ) (id at w : ℕ) →
-    refusal (world h region) (call id (Act.registerRead at w))
-    ≡ first (admission h false 0 false 0 id ++ spaceRows 4096 (eqb w 4) at w)
-unfolding refusal first lentTo accessOf wrongRegion shortTable missing present wrongWidth misaligned outside forbidden isConnected
-register-refusal h region id at w = refl
+-- configuration space
+pub configuration-refusal : (h : Hub) (region : List ℕ) (id : ℕ) (act : Act) (at w : ℕ) →
+    lentTo act ≡ Lent.nothing → accessOf act ≡ Access.configuration at w →
+    refusal (world h region) (call id act) ≡ first (admission h false 0 false 0 id ++ spaceRows 256 (anyWidth w) at w)
+unfolding first wrongRegion shortTable missing present wrongWidth misaligned outside forbidden isConnected
+configuration-refusal h region id act at w l a = by-kind h region id act Lent.nothing (Access.configuration at w) l a
 
-pub msix-refusal : (h : Hub) (region : List ℕ) (id at w : ℕ) →
-    refusal (world h region) (call id (Act.msixRead at w))
-    ≡ first (admission h false 0 false 0 id ++ spaceRows 4096 (eqb w 4) at w)
-unfolding refusal first lentTo accessOf wrongRegion shortTable missing present wrongWidth misaligned outside forbidden isConnected
-msix-refusal h region id at w = refl
+-- the register region and the MSI-X region
+pub region-refusal : (h : Hub) (region : List ℕ) (id : ℕ) (act : Act) (at w : ℕ) →
+    lentTo act ≡ Lent.nothing → accessOf act ≡ Access.registers at w →
+    refusal (world h region) (call id act) ≡ first (admission h false 0 false 0 id ++ spaceRows 4096 (eqb w 4) at w)
+unfolding first wrongRegion shortTable missing present wrongWidth misaligned outside forbidden isConnected
+region-refusal h region id act at w l a = by-kind h region id act Lent.nothing (Access.registers at w) l a
 
+-- the section question
 pub question-refusal : (h : Hub) (region : List ℕ) (id at n : ℕ) →
     refusal (world h region) (call id (Act.question at n))
     ≡ first (admission h false 0 false 0 id ++ rangeRows (h .settings) at n)

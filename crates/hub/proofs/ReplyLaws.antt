@@ -1,14 +1,17 @@
 -- The replies of a refused and of an accepted call.
 use Prim.Native.Nat.{ℕ}
+use mathlib.Core.List.{List}
 use mathlib.Core.Path.{_≡_, refl, sym, ap, _∙_}
 use Rattle.device.specs.declared.Reply.{Reply}
 use Rattle.device.specs.declared.SectionReply.{SectionReply}
 use Rattle.device.specs.Call.{Call}
 use Rattle.device.specs.Refusal.{refusal}
 use Rattle.device.specs.Sections.{noSection}
-use Rattle.device.specs.Step.{Outcome, step, refused, replyOf, sectionReplyOf, effectIn}
-use Rattle.device.specs.World.{World}
+use Rattle.device.specs.Step.{Outcome, step, refused, replyOf, sectionReplyOf, effectIn, runAll}
+use Rattle.device.specs.World.{World, world}
 use Rattle.device.proofs.StepLaws.{refused-changes-nothing, accepted-effect}
+use Rattle.words.specs.Layout.{hubOf}
+use Rattle.hub.specs.Promises.{Changes}
 
 abbrev pub refusedBy : ℕ → Reply
 refusedBy n = record { number = n; value = 0 }
@@ -33,3 +36,24 @@ pub question-accepted : (w : World) (c : Call) → refusal w c ≡ 0 →
     (record { reply = record { number = 0; value = effectIn w c .value }; section = effectIn w c .answer })
     (sectionReplyOf (step w c))
 question-accepted w c e = sym (ap (λ (o : Outcome). sectionReplyOf o) (accepted-effect w c e))
+
+-- A call that changes the hub and is not lent the region: refused, and accepted.
+pub changes-refused : (ws : List ℕ) (c : Call) (n : ℕ) (r : Reply) → ((region : List ℕ) → refusal (world (hubOf ws) region) c ≡ n) →
+    (n ≡ 0 → ⊥) → r ≡ refusedBy n → Changes ws ws c r
+changes-refused ws c n r e some a =
+    record
+    { reply = λ region. a ∙ reply-refused _ c n (e region) some
+    ; hub = λ region. sym (ap (λ (o : Outcome). o .world .hub) (step-refused _ c n (e region) some))
+    ; kept = λ p. refl }
+
+pub changes-accepted : (before after : List ℕ) (c : Call) (r : Reply) →
+    ((region : List ℕ) → refusal (world (hubOf before) region) c ≡ 0) → r ≡ refusedBy 0 →
+    ((region : List ℕ) → 0 ≡ effectIn (world (hubOf before) region) c .value) →
+    ((region : List ℕ) →
+    hubOf after ≡ runAll (c .who) (world (hubOf before) region) (effectIn (world (hubOf before) region) c .operations) .world .hub) →
+    Changes before after c r
+changes-accepted before after c r e a value hub =
+    record
+    { reply = λ region. a ∙ reply-accepted _ c 0 (e region) (value region)
+    ; hub = λ region. hub region ∙ sym (ap (λ (o : Outcome). o .world .hub) (accepted-effect _ c (e region)))
+    ; kept = λ p. absurd (p (ap (λ (x : Reply). x .number) a)) }

@@ -37,15 +37,15 @@ fn set_up_with(hub: &mut [u32], region: &mut [u8], s: Settings) -> Reply
 {
     let number = set_up_refusal(hub.len(), s, region);
     if number == 10 {
-        return refusals::refused(10);
+        return refusals::answered(10);
     }
     if number != 0 {
         words::put_zero(hub);
-        return refusals::refused(number);
+        return refusals::answered(number);
     }
     words::put_fresh(hub, s);
     memory::clear(region);
-    refusals::refused(0)
+    refusals::answered(0)
 }
 
 // Makes the words a hub with nobody connected, and the whole region zero. All numbers are 64 bits wide, so that any is answered;
@@ -105,8 +105,8 @@ pub fn connect(hub: &mut [u32], id: u64) -> Reply
 {
     let number = joining_refusal(hub, id);
     if number != 0 {
-        return refusals::refused(number);
+        return refusals::answered(number);
     }
     words::put_reset(hub, id as usize, 1);
-    refusals::refused(0)
+    refusals::answered(0)
 }

@@ -2,6 +2,7 @@
 mod joining;
 mod reads;
 mod refusals;
+mod writes;
 
 pub use joining::connect;
 pub use joining::set_up;
@@ -9,3 +10,5 @@ pub use reads::configuration_read;
 pub use reads::msix_read;
 pub use reads::register_read;
 pub use reads::section_question;
+pub use writes::configuration_write;
+pub use writes::msix_write;

@@ -14,7 +14,7 @@ pub fn configuration_read(hub: &[u32], id: u64, offset: u64, width: u64) -> Repl
     let allowed = (width == 1) | (width == 2) | (width == 4);
     let number = refusals::space_refusal(hub, id, 256, allowed, offset, width);
     if number != 0 {
-        return refusals::refused(number);
+        return refusals::answered(number);
     }
     let s = words::settings(hub);
     let p = words::peer(hub, id as usize);
@@ -30,7 +30,7 @@ pub fn register_read(hub: &[u32], id: u64, offset: u64, width: u64) -> Reply
 {
     let number = refusals::space_refusal(hub, id, 4096, width == 4, offset, width);
     if number != 0 {
-        return refusals::refused(number);
+        return refusals::answered(number);
     }
     let s = words::settings(hub);
     let p = words::peer(hub, id as usize);
@@ -46,7 +46,7 @@ pub fn msix_read(hub: &[u32], id: u64, offset: u64, width: u64) -> Reply
 {
     let number = refusals::space_refusal(hub, id, 4096, width == 4, offset, width);
     if number != 0 {
-        return refusals::refused(number);
+        return refusals::answered(number);
     }
     let on = registers::memory_on(words::peer(hub, id as usize));
     if !on {
@@ -70,7 +70,7 @@ pub fn msix_read(hub: &[u32], id: u64, offset: u64, width: u64) -> Reply
 fn unanswered(number: u32) -> SectionReply
     ensures { λ r. ⌜ r ≡ record { reply = record { number = number; value = 0 }; section = noSection } ⌝ }
 {
-    let reply = refusals::refused(number);
+    let reply = refusals::answered(number);
     let section = SectionAnswer {
         kind: SectionKind::Nothing,
         store: false,
@@ -93,6 +93,6 @@ pub fn section_question(hub: &[u32], id: u64, offset: u64, length: u64) -> Secti
     }
     let kind = sections::section_of(s, offset, length);
     let section = sections::answer(id, kind);
-    let reply = refusals::refused(0);
+    let reply = refusals::answered(0);
     SectionReply { reply, section }
 }

@@ -10,7 +10,8 @@ ghost use Rattle.device.specs.SetUp.{accepted};
 ghost use Rattle.words.specs.Layout.{hubOf};
 ghost use Rattle.hub.specs.Admission.{admission, spaceRows, rangeRows, Admitted, Inside};
 
-pub fn refused(number: u32) -> Reply
+// An answer that reads nothing: 0 or the refusal's number, with value 0.
+pub fn answered(number: u32) -> Reply
     ensures { λ r. ⌜ r ≡ record { number = number; value = 0 } ⌝ }
 {
     Reply { number, value: 0 }

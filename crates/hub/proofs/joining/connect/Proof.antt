@@ -13,6 +13,7 @@ use Rattle.device.specs.World.{world}
 use Rattle.device.specs.declared.Reply.{Reply}
 use Rattle.words.specs.Layout.{hubOf}
 use Rattle.hub.proofs.RefusalLaws.{connect-refusal}
+use Rattle.hub.proofs.ReplyLaws.{changes-refused, changes-accepted}
 use Rattle.hub.proofs.ReplyLaws.{step-refused, reply-refused, reply-accepted}
 use Rattle.hub.proofs.joining.connect.Statement.{statement}
 use Rattle.hub.proofs.joining.connect.Tie as tie
@@ -20,8 +21,8 @@ use Rattle.hub.proofs.joining.connect.Tie as tie
 joining-refusal-requires : tie.Need-joining-refusal-requires
 joining-refusal-requires c κs = search needs
 
-refused-requires : tie.Need-refused-requires
-refused-requires c κs = search needs
+answered-requires : tie.Need-answered-requires
+answered-requires c κs = search needs
 
 same-length : tie.Need-same-length
 same-length c = search needs
@@ -29,21 +30,17 @@ same-length c = search needs
 returns : tie.Need-returns
 returns c =
     let a = c .before .before .before .before .before .args in
-    let h = hubOf (a .hub .now) in
-    let n : (region : List ℕ) → refusal (world h region) (call (a .id) Act.connect) ≡ c .before .before .joining-refusal .result =
-    λ region. connect-refusal h region (a .id) ∙ sym (c .before .before .joining-refusal .ensures .0) in
-    record
-    { reply = λ region. c .refused .ensures ∙ reply-refused _ _ (c .before .before .joining-refusal .result) (n region) (c .before .if1 .taken)
-    ; hub = λ region. sym (ap (λ (o : Outcome). o .world .hub) (step-refused _ _ (c .before .before .joining-refusal .result) (n region) (c .before .if1 .taken)))
-    ; kept = λ r. refl }
+    changes-refused (a .hub .now) _ (c .before .before .joining-refusal .result) _
+    (λ region. connect-refusal (hubOf (a .hub .now)) region (a .id) ∙ sym (c .before .before .joining-refusal .ensures .0))
+    (c .before .if1 .taken) (c .answered .ensures)
 
 put-reset-requires : tie.Need-put-reset-requires
 put-reset-requires c κs =
     let f = c .before .before .joining-refusal .ensures .1 (c .before .if1 .left) in
     (f .room, f .slot)
 
-refused-requires-2 : tie.Need-refused-requires-2
-refused-requires-2 c κs = search needs
+answered-requires-2 : tie.Need-answered-requires-2
+answered-requires-2 c κs = search needs
 
 same-length-2 : tie.Need-same-length-2
 same-length-2 c = search needs
@@ -52,23 +49,19 @@ returns-2 : tie.Need-returns-2
 unfolding effect runAll run
 returns-2 c =
     let a = c .before .before .before .before .before .before .before .before .before .args in
-    let h = hubOf (a .hub .now) in
-    let n : (region : List ℕ) → refusal (world h region) (call (a .id) Act.connect) ≡ 0 =
-    λ region. connect-refusal h region (a .id) ∙ sym (c .before .before .before .before .before .before .joining-refusal .ensures .0) ∙ c .before .before .before .before .before .if1 .left in
-    record
-    { reply = λ region. c .refused2 .ensures ∙ reply-accepted _ _ 0 (n region) refl
-    ; hub = λ region. c .before .before .before .put-reset .ensures ∙ sym (ap (λ (o : Outcome). o .world .hub) (accepted-effect _ _ (n region)))
-    ; kept = λ r. absurd (r (ap (λ (x : Reply). x .number) (c .refused2 .ensures))) }
+    changes-accepted (a .hub .now) _ _ _
+    (λ region. connect-refusal (hubOf (a .hub .now)) region (a .id) ∙ sym (c .before .before .before .before .before .before .joining-refusal .ensures .0) ∙ c .before .before .before .before .before .if1 .left)
+    (c .answered2 .ensures) (λ region. refl) (λ region. c .before .before .before .put-reset .ensures)
 
 pub connect-spec : {M : Type 1} → statement M
 connect-spec =
     tie.close
     (tie.spec
     joining-refusal-requires
-    refused-requires
+    answered-requires
     same-length
     returns
     put-reset-requires
-    refused-requires-2
+    answered-requires-2
     same-length-2
     returns-2)

@@ -18,8 +18,8 @@ use Rattle.hub.proofs.joining.set_up_with.Tie as tie
 set-up-refusal-requires : tie.Need-set-up-refusal-requires
 set-up-refusal-requires c κs = search needs
 
-refused-requires : tie.Need-refused-requires
-refused-requires c κs = search needs
+answered-requires : tie.Need-answered-requires
+answered-requires c κs = search needs
 
 same-length : tie.Need-same-length
 same-length c = search needs
@@ -28,10 +28,10 @@ returns : tie.Need-returns
 returns c =
     let a = c .before .before .before .before .before .before .args in
     let e = sym (c .before .before .set-up-refusal .ensures .0) ∙ c .before .if1 .taken in
-    let n : c .refused .result .number ≡ 10 = ap (λ (r : Reply). r .number) (c .refused .ensures) in
-    let some : c .refused .result .number ≡ 0 → ⊥ = λ z. omega arith in
+    let n : c .answered .result .number ≡ 10 = ap (λ (r : Reply). r .number) (c .answered .ensures) in
+    let some : c .answered .result .number ≡ 0 → ⊥ = λ z. omega arith in
     record
-    { reply = c .refused .ensures ∙ ap (λ (k : ℕ). refusedBy k) (sym e)
+    { reply = c .answered .ensures ∙ ap (λ (k : ℕ). refusedBy k) (sym e)
     ; hub = ten-other (a .hub .now) (a .region .now) (a .s) e ∙ sym (hub-refused _ (a .s) some)
     ; region = sym (region-refused _ (a .region .now) some)
     ; zero = λ p q. absurd (q n)
@@ -40,8 +40,8 @@ returns c =
 put-zero-requires : tie.Need-put-zero-requires
 put-zero-requires c κs = search needs
 
-refused-requires-2 : tie.Need-refused-requires-2
-refused-requires-2 c κs = search needs
+answered-requires-2 : tie.Need-answered-requires-2
+answered-requires-2 c κs = search needs
 
 same-length-2 : tie.Need-same-length-2
 same-length-2 c = search needs
@@ -53,10 +53,10 @@ returns-2 : tie.Need-returns-2
 returns-2 c =
     let a = c .before .before .before .before .before .before .before .before .before .before .before .args in
     let k = c .before .before .before .before .before .before .before .set-up-refusal .result in
-    let n : c .refused2 .result .number ≡ k = ap (λ (r : Reply). r .number) (c .refused2 .ensures) in
-    let some : c .refused2 .result .number ≡ 0 → ⊥ = λ z. c .before .before .before .before .before .if2 .taken (sym n ∙ z) in
+    let n : c .answered2 .result .number ≡ k = ap (λ (r : Reply). r .number) (c .answered2 .ensures) in
+    let some : c .answered2 .result .number ≡ 0 → ⊥ = λ z. c .before .before .before .before .before .if2 .taken (sym n ∙ z) in
     record
-    { reply = c .refused2 .ensures ∙ ap (λ (x : ℕ). refusedBy x) (c .before .before .before .before .before .before .before .set-up-refusal .ensures .0)
+    { reply = c .answered2 .ensures ∙ ap (λ (x : ℕ). refusedBy x) (c .before .before .before .before .before .before .before .set-up-refusal .ensures .0)
     ; hub = ap (λ (ws : List ℕ). hubOf ws) (c .before .before .before .put-zero .ensures) ∙ zero-words (length (a .hub .now)) ∙ sym (hub-refused _ (a .s) some)
     ; region = sym (region-refused _ (a .region .now) some)
     ; zero = λ p q. c .before .before .before .put-zero .ensures
@@ -70,8 +70,8 @@ put-fresh-requires c κs =
 clear-requires : tie.Need-clear-requires
 clear-requires c κs = search needs
 
-refused-requires-3 : tie.Need-refused-requires-3
-refused-requires-3 c κs = search needs
+answered-requires-3 : tie.Need-answered-requires-3
+answered-requires-3 c κs = search needs
 
 same-length-4 : tie.Need-same-length-4
 same-length-4 c = search needs
@@ -82,9 +82,9 @@ same-length-5 c = search needs
 returns-3 : tie.Need-returns-3
 returns-3 c =
     let a = c .before .before .before .before .before .before .before .before .before .before .before .before .before .before .before .args in
-    let n : c .refused3 .result .number ≡ 0 = ap (λ (r : Reply). r .number) (c .refused3 .ensures) in
+    let n : c .answered3 .result .number ≡ 0 = ap (λ (r : Reply). r .number) (c .answered3 .ensures) in
     record
-    { reply = c .refused3 .ensures ∙ ap (λ (x : ℕ). refusedBy x) (sym (c .before .before .before .before .before .before .before .before .before .if2 .left) ∙ c .before .before .before .before .before .before .before .before .before .before .before .set-up-refusal .ensures .0)
+    { reply = c .answered3 .ensures ∙ ap (λ (x : ℕ). refusedBy x) (sym (c .before .before .before .before .before .before .before .before .before .if2 .left) ∙ c .before .before .before .before .before .before .before .before .before .before .before .set-up-refusal .ensures .0)
     ; hub = c .before .before .before .before .before .before .before .put-fresh .ensures ∙ sym (ap (λ (x : ℕ). hubAfterSetUp x (a .s)) n)
     ; region = c .before .before .before .clear .ensures ∙ sym (ap (λ (x : ℕ). regionAfterSetUp x (a .region .now)) n)
     ; zero = λ p q. absurd (p n)
@@ -95,17 +95,17 @@ set-up-with-spec =
     tie.close
     (tie.spec
     set-up-refusal-requires
-    refused-requires
+    answered-requires
     same-length
     returns
     put-zero-requires
-    refused-requires-2
+    answered-requires-2
     same-length-2
     same-length-3
     returns-2
     put-fresh-requires
     clear-requires
-    refused-requires-3
+    answered-requires-3
     same-length-4
     same-length-5
     returns-3)

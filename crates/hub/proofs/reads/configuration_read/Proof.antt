@@ -1,12 +1,13 @@
 -- `hub::reads::configuration_read` meets its contract: a refusal is the table's, and an accepted read is its effect.
-use mathlib.Core.Path.{_≡_, sym, _∙_}
+use mathlib.Core.Path.{_≡_, refl, sym, _∙_}
 use native.Mathlib.Omega.{arith}
 use borrow.Author.Needs.{needs}
+use Rattle.device.specs.Call.{Act}
 use Rattle.device.specs.Effect.{effect}
+use Rattle.device.specs.Refusal.{lentTo, accessOf}
 use Rattle.hub.specs.Admission.{anyWidth}
 use Rattle.words.specs.Layout.{hubOf}
 use Rattle.hub.proofs.RefusalLaws.{configuration-refusal, any-width}
-use Rattle.hub.proofs.RefusalLaws.{configuration-refusal, space-admitted, space-inside, any-width}
 use Rattle.hub.proofs.ReplyLaws.{reply-refused, reply-accepted}
 use Rattle.hub.proofs.reads.configuration_read.Statement.{statement}
 use Rattle.hub.proofs.reads.configuration_read.Tie as tie
@@ -14,16 +15,17 @@ use Rattle.hub.proofs.reads.configuration_read.Tie as tie
 space-refusal-requires : tie.Need-space-refusal-requires
 space-refusal-requires c κs = (omega arith, any-width (c .before .args .width))
 
-refused-requires : tie.Need-refused-requires
-refused-requires c κs = search needs
+answered-requires : tie.Need-answered-requires
+answered-requires c κs = search needs
 
 returns : tie.Need-returns
+unfolding lentTo accessOf
 returns c =
     let a = c .before .before .before .before .args in
     λ region.
-    c .refused .ensures
+    c .answered .ensures
     ∙ reply-refused _ _ (c .before .before .space-refusal .result)
-    (configuration-refusal (hubOf (a .hub .now)) region (a .id) (a .offset) (a .width) ∙ sym (c .before .before .space-refusal .ensures .0)) (c .before .if1 .taken)
+    (configuration-refusal (hubOf (a .hub .now)) region (a .id) (Act.configurationRead (a .offset) (a .width)) (a .offset) (a .width) refl refl ∙ sym (c .before .before .space-refusal .ensures .0)) (c .before .if1 .taken)
 
 settings-requires : tie.Need-settings-requires
 settings-requires c κs =
@@ -46,12 +48,12 @@ cast-t15 : tie.Need-cast-t15
 cast-t15 c = search needs
 
 returns-2 : tie.Need-returns-2
-unfolding effect
+unfolding lentTo accessOf effect
 returns-2 c =
     let a = c .before .before .before .before .before .before .args in
     λ region.
     reply-accepted _ _ (c .read .result)
-    (configuration-refusal (hubOf (a .hub .now)) region (a .id) (a .offset) (a .width) ∙ sym (c .before .before .before .before .space-refusal .ensures .0) ∙ c .before .before .before .if1 .left)
+    (configuration-refusal (hubOf (a .hub .now)) region (a .id) (Act.configurationRead (a .offset) (a .width)) (a .offset) (a .width) refl refl ∙ sym (c .before .before .before .before .space-refusal .ensures .0) ∙ c .before .before .before .if1 .left)
     (rw (c .read .ensures .0, c .before .before .settings .ensures, c .before .peer .ensures))
 
 pub configuration-read-spec : {M : Type 1} → statement M
@@ -59,7 +61,7 @@ configuration-read-spec =
     tie.close
     (tie.spec
     space-refusal-requires
-    refused-requires
+    answered-requires
     returns
     settings-requires
     peer-requires

@@ -1,14 +1,16 @@
 -- `hub::reads::msix_read` meets its contract: a refusal is the table's, and an accepted read is its effect, in three cases.
 use Prim.Native.Nat.{_/_, _<_, _^_}
-use mathlib.Core.Path.{_≡_, sym, _∙_}
+use mathlib.Core.Path.{_≡_, refl, sym, _∙_}
 use native.Mathlib.Omega.{arith}
 use borrow.Author.Needs.{needs}
 use borrow.Author.Tests.{eqb-true, not-true, not-false, ltb-true}
 use Rattle.device.proofs.SetUpLaws.{accepted-facts}
+use Rattle.device.specs.Call.{Act}
 use Rattle.device.specs.Effect.{effect}
+use Rattle.device.specs.Refusal.{lentTo, accessOf}
 use Rattle.device.specs.Msix.{msixRead, tableWord, inTable}
 use Rattle.words.specs.Layout.{hubOf}
-use Rattle.hub.proofs.RefusalLaws.{msix-refusal}
+use Rattle.hub.proofs.RefusalLaws.{region-refusal}
 use Rattle.hub.proofs.ReplyLaws.{reply-refused, reply-accepted}
 use Rattle.hub.proofs.reads.msix_read.Statement.{statement}
 use Rattle.hub.proofs.reads.msix_read.Tie as tie
@@ -16,16 +18,17 @@ use Rattle.hub.proofs.reads.msix_read.Tie as tie
 space-refusal-requires : tie.Need-space-refusal-requires
 space-refusal-requires c κs = (omega arith, λ e. let h = eqb-true (c .before .args .width) 4 e in omega arith)
 
-refused-requires : tie.Need-refused-requires
-refused-requires c κs = search needs
+answered-requires : tie.Need-answered-requires
+answered-requires c κs = search needs
 
 returns : tie.Need-returns
+unfolding lentTo accessOf
 returns c =
     let a = c .before .before .before .before .args in
     λ region.
-    c .refused .ensures
+    c .answered .ensures
     ∙ reply-refused _ _ (c .before .before .space-refusal .result)
-    (msix-refusal (hubOf (a .hub .now)) region (a .id) (a .offset) (a .width) ∙ sym (c .before .before .space-refusal .ensures .0)) (c .before .if1 .taken)
+    (region-refusal (hubOf (a .hub .now)) region (a .id) (Act.msixRead (a .offset) (a .width)) (a .offset) (a .width) refl refl ∙ sym (c .before .before .space-refusal .ensures .0)) (c .before .if1 .taken)
 
 peer-requires : tie.Need-peer-requires
 peer-requires c κs =
@@ -36,13 +39,13 @@ memory-on-requires : tie.Need-memory-on-requires
 memory-on-requires c κs = search needs
 
 returns-2 : tie.Need-returns-2
-unfolding effect msixRead
+unfolding lentTo accessOf effect msixRead
 returns-2 c =
     let a = c .before .before .before .before .before .before .args in
     let off = rw (c .before .memory-on .ensures, c .before .before .peer .ensures) at (not-true (c .before .memory-on .result) (c .if2 .taken)) in
     λ region.
     reply-accepted _ _ 0xFFFFFFFF
-    (msix-refusal (hubOf (a .hub .now)) region (a .id) (a .offset) (a .width) ∙ sym (c .before .before .before .before .space-refusal .ensures .0) ∙ c .before .before .before .if1 .left)
+    (region-refusal (hubOf (a .hub .now)) region (a .id) (Act.msixRead (a .offset) (a .width)) (a .offset) (a .width) refl refl ∙ sym (c .before .before .before .before .space-refusal .ensures .0) ∙ c .before .before .before .if1 .left)
     (rw off)
 
 settings-requires : tie.Need-settings-requires
@@ -52,14 +55,14 @@ in-table-requires : tie.Need-in-table-requires
 in-table-requires c κs = search needs
 
 returns-3 : tie.Need-returns-3
-unfolding effect msixRead tableWord
+unfolding lentTo accessOf effect msixRead tableWord
 returns-3 c =
     let a = c .before .before .before .before .before .before .before .before .before .args in
     let on = rw (c .before .before .before .before .memory-on .ensures, c .before .before .before .before .before .peer .ensures) at (not-false (c .before .before .before .before .memory-on .result) (c .before .before .before .if2 .left)) in
     let out = rw (c .before .in-table .ensures, c .before .before .settings .ensures) at (not-true (c .before .in-table .result) (c .if3 .taken)) in
     λ region.
     reply-accepted _ _ 0
-    (msix-refusal (hubOf (a .hub .now)) region (a .id) (a .offset) (a .width) ∙ sym (c .before .before .before .before .before .before .before .space-refusal .ensures .0) ∙ c .before .before .before .before .before .before .if1 .left)
+    (region-refusal (hubOf (a .hub .now)) region (a .id) (Act.msixRead (a .offset) (a .width)) (a .offset) (a .width) refl refl ∙ sym (c .before .before .before .before .before .before .before .space-refusal .ensures .0) ∙ c .before .before .before .before .before .before .if1 .left)
     (rw (on, out))
 
 entry-requires : tie.Need-entry-requires
@@ -75,14 +78,14 @@ word-requires : tie.Need-word-requires
 word-requires c κs = search needs
 
 returns-4 : tie.Need-returns-4
-unfolding effect msixRead tableWord
+unfolding lentTo accessOf effect msixRead tableWord
 returns-4 c =
     let a = c .before .before .before .before .before .before .before .before .before .before .before .args in
     let on = rw (c .before .before .before .before .before .before .memory-on .ensures, c .before .before .before .before .before .before .before .peer .ensures) at (not-false (c .before .before .before .before .before .before .memory-on .result) (c .before .before .before .before .before .if2 .left)) in
     let inside = rw (c .before .before .before .in-table .ensures, c .before .before .before .before .settings .ensures) at (not-false (c .before .before .before .in-table .result) (c .before .before .if3 .left)) in
     λ region.
     reply-accepted _ _ (c .word .result)
-    (msix-refusal (hubOf (a .hub .now)) region (a .id) (a .offset) (a .width) ∙ sym (c .before .before .before .before .before .before .before .before .before .space-refusal .ensures .0) ∙ c .before .before .before .before .before .before .before .before .if1 .left)
+    (region-refusal (hubOf (a .hub .now)) region (a .id) (Act.msixRead (a .offset) (a .width)) (a .offset) (a .width) refl refl ∙ sym (c .before .before .before .before .before .before .before .before .before .space-refusal .ensures .0) ∙ c .before .before .before .before .before .before .before .before .if1 .left)
     (rw (on, inside, c .word .ensures, c .before .entry .ensures))
 
 pub msix-read-spec : {M : Type 1} → statement M
@@ -90,7 +93,7 @@ msix-read-spec =
     tie.close
     (tie.spec
     space-refusal-requires
-    refused-requires
+    answered-requires
     returns
     peer-requires
     memory-on-requires

@@ -71,8 +71,8 @@ section-of-requires c κs =
 answer-requires : tie.Need-answer-requires
 answer-requires c κs = search needs
 
-refused-requires : tie.Need-refused-requires
-refused-requires c κs = search needs
+answered-requires : tie.Need-answered-requires
+answered-requires c κs = search needs
 
 returns-3 : tie.Need-returns-3
 unfolding effect
@@ -82,7 +82,7 @@ returns-3 c =
     let e = c .before .before .before .before .before .before .before .admitted .ensures .0 in
     let f = rw (c .before .before .before .before .before .settings .ensures) at (c .before .before .before .before .range .ensures) in
     λ region.
-    rw (c .refused .ensures, c .before .answer .ensures, c .before .before .section-of .ensures, c .before .before .before .before .before .settings .ensures)
+    rw (c .answered .ensures, c .before .answer .ensures, c .before .before .section-of .ensures, c .before .before .before .before .before .settings .ensures)
     (question-accepted _ _
     (question-refusal h region (a .id) (a .offset) (a .length)
     ∙ first-goes-on (admission h false 0 false 0 (a .id)) (rangeRows (h .settings) (a .offset) (a .length)) refl (sym e ∙ c .before .before .before .before .before .before .if1 .left)
@@ -101,5 +101,5 @@ section-question-spec =
     returns-2
     section-of-requires
     answer-requires
-    refused-requires
+    answered-requires
     returns-3)

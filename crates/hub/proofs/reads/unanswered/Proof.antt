@@ -3,11 +3,11 @@ use borrow.Author.Needs.{needs}
 use Rattle.hub.proofs.reads.unanswered.Statement.{statement}
 use Rattle.hub.proofs.reads.unanswered.Tie as tie
 
-refused-requires : tie.Need-refused-requires
-refused-requires c κs = search needs
+answered-requires : tie.Need-answered-requires
+answered-requires c κs = search needs
 
 returns : tie.Need-returns
-returns c = rw (c .refused .ensures)
+returns c = rw (c .answered .ensures)
 
 pub unanswered-spec : {M : Type 1} → statement M
-unanswered-spec = tie.close (tie.spec refused-requires returns)
+unanswered-spec = tie.close (tie.spec answered-requires returns)

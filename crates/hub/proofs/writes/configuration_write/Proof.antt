@@ -1,0 +1,83 @@
+-- `hub::writes::configuration_write` meets its contract: a refusal is the table's, and an accepted write is its effect.
+use mathlib.Core.Path.{_≡_, refl, sym, _∙_}
+use native.Mathlib.Omega.{arith}
+use borrow.Author.Needs.{needs}
+use Rattle.device.specs.Call.{Act}
+use Rattle.device.specs.Effect.{effect}
+use Rattle.device.specs.Refusal.{lentTo, accessOf}
+use Rattle.device.specs.Step.{run, runAll}
+use Rattle.words.specs.Layout.{hubOf}
+use Rattle.hub.proofs.RefusalLaws.{configuration-refusal, any-width}
+use Rattle.hub.proofs.ReplyLaws.{changes-refused, changes-accepted}
+use Rattle.hub.proofs.writes.configuration_write.Statement.{statement}
+use Rattle.hub.proofs.writes.configuration_write.Tie as tie
+
+space-refusal-requires : tie.Need-space-refusal-requires
+space-refusal-requires c κs = (omega arith, any-width (c .before .before .args .width))
+
+answered-requires : tie.Need-answered-requires
+answered-requires c κs = search needs
+
+same-length : tie.Need-same-length
+same-length c = search needs
+
+returns : tie.Need-returns
+unfolding lentTo accessOf
+returns c =
+    let a = c .before .before .before .before .before .args in
+    changes-refused (a .hub .now) _ (c .before .before .space-refusal .result) _
+    (λ region.
+    configuration-refusal (hubOf (a .hub .now)) region (a .id) (Act.configurationWrite (a .offset) (a .width) (a .value)) (a .offset) (a .width) refl refl
+    ∙ sym (c .before .before .space-refusal .ensures .0))
+    (c .before .if1 .taken) (c .answered .ensures)
+
+settings-requires : tie.Need-settings-requires
+settings-requires c κs = c .before .before .space-refusal .ensures .1 .0 (c .before .if1 .left) .room
+
+peer-requires : tie.Need-peer-requires
+peer-requires c κs =
+    let f = c .before .before .before .before .space-refusal .ensures .1 .0 (c .before .before .before .if1 .left) in
+    (f .room, f .slot)
+
+write-requires : tie.Need-write-requires
+write-requires c κs =
+    let f = c .before .before .before .before .before .before .space-refusal .ensures .1 .1 (c .before .before .before .before .before .if1 .left) in
+    (any-width (c .before .before .before .before .before .before .before .before .before .args .width) (f .width) .1, f .fits)
+
+put-peer-requires : tie.Need-put-peer-requires
+put-peer-requires c κs =
+    let f = c .before .before .before .before .before .before .before .space-refusal .ensures .1 .0 (c .before .before .before .before .before .before .if1 .left) in
+    (f .room, f .slot)
+
+answered-requires-2 : tie.Need-answered-requires-2
+answered-requires-2 c κs = search needs
+
+same-length-2 : tie.Need-same-length-2
+same-length-2 c = search needs
+
+returns-2 : tie.Need-returns-2
+unfolding lentTo accessOf effect runAll run
+returns-2 c =
+    let a = c .before .before .before .before .before .before .before .before .before .before .before .before .before .before .args in
+    changes-accepted (a .hub .now) _ _ _
+    (λ region.
+    configuration-refusal (hubOf (a .hub .now)) region (a .id) (Act.configurationWrite (a .offset) (a .width) (a .value)) (a .offset) (a .width) refl refl
+    ∙ sym (c .before .before .before .before .before .before .before .before .before .before .before .space-refusal .ensures .0) ∙ c .before .before .before .before .before .before .before .before .before .before .if1 .left)
+    (c .answered2 .ensures) (λ region. refl)
+    (λ region. rw (c .before .before .before .put-peer .ensures, c .before .before .before .before .write .ensures, c .before .before .before .before .before .before .before .before .settings .ensures, c .before .before .before .before .before .before .peer .ensures))
+
+pub configuration-write-spec : {M : Type 1} → statement M
+configuration-write-spec =
+    tie.close
+    (tie.spec
+    space-refusal-requires
+    answered-requires
+    same-length
+    returns
+    settings-requires
+    peer-requires
+    write-requires
+    put-peer-requires
+    answered-requires-2
+    same-length-2
+    returns-2)

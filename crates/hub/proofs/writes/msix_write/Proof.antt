@@ -1,0 +1,151 @@
+-- `hub::writes::msix_write` meets its contract: a refusal is the table's, and an accepted write is its effect, in three cases.
+use Prim.Native.Nat.{_/_, _<_}
+use mathlib.Core.Path.{_≡_, refl, sym, _∙_}
+use native.Mathlib.Omega.{arith}
+use borrow.Author.Needs.{needs}
+use borrow.Author.Tests.{eqb-true, not-true, not-false, ltb-true}
+use Rattle.device.proofs.SetUpLaws.{accepted-facts}
+use Rattle.device.specs.Call.{Act}
+use Rattle.device.specs.Effect.{effect}
+use Rattle.device.specs.Msix.{msixWritten, inTable}
+use Rattle.device.specs.Refusal.{lentTo, accessOf}
+use Rattle.device.specs.Step.{run, runAll}
+use Rattle.words.proofs.SlotLaws.{slot-kept}
+use Rattle.words.specs.Layout.{hubOf}
+use Rattle.hub.proofs.RefusalLaws.{region-refusal}
+use Rattle.hub.proofs.ReplyLaws.{changes-refused, changes-accepted}
+use Rattle.hub.proofs.writes.msix_write.Statement.{statement}
+use Rattle.hub.proofs.writes.msix_write.Tie as tie
+
+space-refusal-requires : tie.Need-space-refusal-requires
+space-refusal-requires c κs = (omega arith, λ e. let h = eqb-true (c .before .before .args .width) 4 e in omega arith)
+
+answered-requires : tie.Need-answered-requires
+answered-requires c κs = search needs
+
+same-length : tie.Need-same-length
+same-length c = search needs
+
+returns : tie.Need-returns
+unfolding lentTo accessOf
+returns c =
+    let a = c .before .before .before .before .before .args in
+    changes-refused (a .hub .now) _ (c .before .before .space-refusal .result) _
+    (λ region.
+    region-refusal (hubOf (a .hub .now)) region (a .id) (Act.msixWrite (a .offset) (a .width) (a .value)) (a .offset) (a .width) refl refl
+    ∙ sym (c .before .before .space-refusal .ensures .0))
+    (c .before .if1 .taken) (c .answered .ensures)
+
+peer-requires : tie.Need-peer-requires
+peer-requires c κs =
+    let f = c .before .before .space-refusal .ensures .1 .0 (c .before .if1 .left) in
+    (f .room, f .slot)
+
+memory-on-requires : tie.Need-memory-on-requires
+memory-on-requires c κs = search needs
+
+answered-requires-2 : tie.Need-answered-requires-2
+answered-requires-2 c κs = search needs
+
+same-length-2 : tie.Need-same-length-2
+same-length-2 c = search needs
+
+returns-2 : tie.Need-returns-2
+unfolding lentTo accessOf effect runAll run
+returns-2 c =
+    let a = c .before .before .before .before .before .before .before .before .before .args in
+    let off = rw (c .before .before .memory-on .ensures, c .before .before .before .peer .ensures) at (not-true (c .before .before .memory-on .result) (c .before .if2 .taken)) in
+    changes-accepted (a .hub .now) _ _ _
+    (λ region.
+    region-refusal (hubOf (a .hub .now)) region (a .id) (Act.msixWrite (a .offset) (a .width) (a .value)) (a .offset) (a .width) refl refl
+    ∙ sym (c .before .before .before .before .before .before .space-refusal .ensures .0) ∙ c .before .before .before .before .before .if1 .left)
+    (c .answered2 .ensures) (λ region. refl) (λ region. rw off)
+
+settings-requires : tie.Need-settings-requires
+settings-requires c κs = c .before .before .before .before .before .before .space-refusal .ensures .1 .0 (c .before .before .before .before .before .if1 .left) .room
+
+in-table-requires : tie.Need-in-table-requires
+in-table-requires c κs = search needs
+
+answered-requires-3 : tie.Need-answered-requires-3
+answered-requires-3 c κs = search needs
+
+same-length-3 : tie.Need-same-length-3
+same-length-3 c = search needs
+
+returns-3 : tie.Need-returns-3
+unfolding lentTo accessOf effect runAll run msixWritten
+returns-3 c =
+    let a = c .before .before .before .before .before .before .before .before .before .before .before .before .before .args in
+    let on = rw (c .before .before .before .before .before .before .memory-on .ensures, c .before .before .before .before .before .before .before .peer .ensures) at (not-false (c .before .before .before .before .before .before .memory-on .result) (c .before .before .before .before .before .if2 .left)) in
+    let out = rw (c .before .before .in-table .ensures, c .before .before .before .settings .ensures) at (not-true (c .before .before .in-table .result) (c .before .if3 .taken)) in
+    changes-accepted (a .hub .now) _ _ _
+    (λ region.
+    region-refusal (hubOf (a .hub .now)) region (a .id) (Act.msixWrite (a .offset) (a .width) (a .value)) (a .offset) (a .width) refl refl
+    ∙ sym (c .before .before .before .before .before .before .before .before .before .before .space-refusal .ensures .0) ∙ c .before .before .before .before .before .before .before .before .before .if1 .left)
+    (c .answered3 .ensures) (λ region. refl) (λ region. rw (on, out) (slot-kept (hubOf (a .hub .now)) (a .id)))
+
+entry-requires : tie.Need-entry-requires
+unfolding inTable
+entry-requires c κs =
+    let a = c .before .before .before .before .before .before .before .before .before .before .before .before .before .args in
+    let f = c .before .before .before .before .before .before .before .before .before .before .space-refusal .ensures .1 .0 (c .before .before .before .before .before .before .before .before .before .if1 .left) in
+    let inside = rw (c .before .before .in-table .ensures, c .before .before .before .settings .ensures) at (not-false (c .before .before .in-table .result) (c .before .if3 .left)) in
+    let v : a .offset / 16 < hubOf (a .hub .now) .settings .vectors = ltb-true _ _ inside in
+    (f .room, (f .slot, omega (arith, accepted-facts _ (f .numbers) .vectors)))
+
+with-word-requires : tie.Need-with-word-requires
+with-word-requires c κs = search needs
+
+put-entry-requires : tie.Need-put-entry-requires
+unfolding inTable
+put-entry-requires c κs =
+    let a = c .before .before .before .before .before .before .before .before .before .before .before .before .before .before .before .before .args in
+    let f = c .before .before .before .before .before .before .before .before .before .before .before .before .before .space-refusal .ensures .1 .0 (c .before .before .before .before .before .before .before .before .before .before .before .before .if1 .left) in
+    let inside = rw (c .before .before .before .before .before .in-table .ensures, c .before .before .before .before .before .before .settings .ensures) at (not-false (c .before .before .before .before .before .in-table .result) (c .before .before .before .before .if3 .left)) in
+    let v : a .offset / 16 < hubOf (a .hub .now) .settings .vectors = ltb-true _ _ inside in
+    (f .room, (f .slot, omega (arith, accepted-facts _ (f .numbers) .vectors)))
+
+answered-requires-4 : tie.Need-answered-requires-4
+answered-requires-4 c κs = search needs
+
+same-length-4 : tie.Need-same-length-4
+same-length-4 c = search needs
+
+returns-4 : tie.Need-returns-4
+unfolding lentTo accessOf effect runAll run msixWritten
+returns-4 c =
+    let a = c .before .before .before .before .before .before .before .before .before .before .before .before .before .before .before .before .before .before .before .before .args in
+    let on = rw (c .before .before .before .before .before .before .before .before .before .before .before .before .before .memory-on .ensures, c .before .before .before .before .before .before .before .before .before .before .before .before .before .before .peer .ensures) at (not-false (c .before .before .before .before .before .before .before .before .before .before .before .before .before .memory-on .result) (c .before .before .before .before .before .before .before .before .before .before .before .before .if2 .left)) in
+    let inside = rw (c .before .before .before .before .before .before .before .before .before .in-table .ensures, c .before .before .before .before .before .before .before .before .before .before .settings .ensures) at (not-false (c .before .before .before .before .before .before .before .before .before .in-table .result) (c .before .before .before .before .before .before .before .before .if3 .left)) in
+    changes-accepted (a .hub .now) _ _ _
+    (λ region.
+    region-refusal (hubOf (a .hub .now)) region (a .id) (Act.msixWrite (a .offset) (a .width) (a .value)) (a .offset) (a .width) refl refl
+    ∙ sym (c .before .before .before .before .before .before .before .before .before .before .before .before .before .before .before .before .before .space-refusal .ensures .0) ∙ c .before .before .before .before .before .before .before .before .before .before .before .before .before .before .before .before .if1 .left)
+    (c .answered4 .ensures) (λ region. refl)
+    (λ region. rw (on, inside, c .before .before .before .put-entry .ensures, c .before .before .before .before .with-word .ensures, c .before .before .before .before .before .before .entry .ensures))
+
+pub msix-write-spec : {M : Type 1} → statement M
+msix-write-spec =
+    tie.close
+    (tie.spec
+    space-refusal-requires
+    answered-requires
+    same-length
+    returns
+    peer-requires
+    memory-on-requires
+    answered-requires-2
+    same-length-2
+    returns-2
+    settings-requires
+    in-table-requires
+    answered-requires-3
+    same-length-3
+    returns-3
+    entry-requires
+    with-word-requires
+    put-entry-requires
+    answered-requires-4
+    same-length-4
+    returns-4)
