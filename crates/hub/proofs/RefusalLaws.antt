@@ -6,19 +6,21 @@ use mathlib.Core.Path.{_≡_, refl, sym, ap, _∙_}
 use native.Mathlib.Omega.{arith}
 use lib.Dec.{eqb, leb}
 use lib.ListN.{length, getD}
-use borrow.Author.Tests.{eqb-true, leb-false, ltb-false, not-false}
+use borrow.Author.Tests.{eqb-true, eqb-false, leb-false, ltb-false, not-false}
 use Rattle.common.specs.Tests.{Row, row, first}
 use Rattle.common.proofs.TestLaws.{first-none, first-parts}
 use Rattle.device.specs.Call.{Act, call}
 use Rattle.device.specs.Refusal.{Lent, Access, checks, lentTo, accessOf, wrongRegion, shortTable, missing, present, wrongWidth, misaligned, outside, forbidden, isConnected, refusal}
+use Rattle.device.specs.Sections.{sectionOf, somewhere}
 use Rattle.device.specs.SetUp.{accepted}
 use Rattle.device.specs.Sizes.{maxPeers}
 use Rattle.device.specs.Sound.{sound}
 use Rattle.device.specs.World.{Hub, world, slotAt}
 use Rattle.device.proofs.SetUpLaws.{Accepted, accepted-facts}
+use Rattle.sections.proofs.OutputLaws.{held-fits}
 use Rattle.soundness.proofs.WholeLaws.{sound-numbers, sound-room}
 use Rattle.words.specs.Layout.{hubWords, hubOf}
-use Rattle.hub.specs.Admission.{admission, joiningRows, spaceRows, rangeRows, anyWidth, Admitted, Inside}
+use Rattle.hub.specs.Admission.{admission, joiningRows, spaceRows, rangeRows, storeRows, anyWidth, Admitted, Inside, InSection}
 
 known-caller : (ws : List ℕ) (id : ℕ) → not (sound (hubOf ws)) ≡ false → leb (hubOf ws .settings .peers) id ≡ false → Admitted ws id
 known-caller ws id n l =
@@ -119,3 +121,63 @@ joining-facts ws id r e =
     , λ z.
     let none = first-none (joiningRows (hubOf ws) id) refl (sym e ∙ z) in
     known-caller ws id (none 0) (none 1))
+
+-- a range of the shared region that is not refused
+module _ (ws : List ℕ) (regional : Bool) (region id at n r : ℕ)
+    (e : r ≡ first (admission (hubOf ws) regional region false 0 id ++ rangeRows (hubOf ws .settings) at n)) where
+  range-inside : r ≡ 0 → InSection (hubOf ws .settings) regional region at n
+  range-inside z =
+      let parts = first-parts (admission (hubOf ws) regional region false 0 id) (rangeRows (hubOf ws .settings) at n) refl (sym e ∙ z) in
+      let caller = first-none (admission (hubOf ws) regional region false 0 id) refl (parts .0) in
+      let range = first-none (rangeRows (hubOf ws .settings) at n) refl (parts .1) in
+      record
+      { some = positive-length (range 0)
+      ; fits = held-fits (hubOf ws .settings) at n (not-false (somewhere (sectionOf (hubOf ws .settings) at n)) (range 1))
+      ; lent = λ t. eqb-true _ _ (not-false _ (rw t at (caller 1))) }
+    where
+      positive-length : eqb n 0 ≡ false → 0 < n
+      positive-length f = let h : n ≡ 0 → ⊥ = eqb-false _ _ f in omega arith
+
+  pub range-facts :
+      (r ≡ first (admission (hubOf ws) regional region false 0 id ++ rangeRows (hubOf ws .settings) at n))
+      × ((r ≡ 0 → Admitted ws id) × (r ≡ 0 → InSection (hubOf ws .settings) regional region at n))
+  range-facts =
+      (e
+      , (λ z.
+      admitted-facts ws regional region false 0 id
+      (first-parts (admission (hubOf ws) regional region false 0 id) (rangeRows (hubOf ws .settings) at n) refl (sym e ∙ z) .0)
+      , range-inside))
+
+-- loads and stores, which are lent the region
+pub load-refusal : (h : Hub) (region : List ℕ) (id at n : ℕ) →
+    refusal (world h region) (call id (Act.load at n))
+    ≡ first (admission h true (length region) false 0 id ++ rangeRows (h .settings) at n)
+unfolding refusal first lentTo accessOf wrongRegion shortTable missing present wrongWidth misaligned outside forbidden isConnected
+load-refusal h region id at n = refl
+
+pub store-refusal : (h : Hub) (region : List ℕ) (id at : ℕ) (bs : List ℕ) →
+    refusal (world h region) (call id (Act.store at bs))
+    ≡ first
+    ((admission h true (length region) false 0 id ++ rangeRows (h .settings) at (length bs))
+    ++ storeRows (h .settings) id at (length bs))
+unfolding refusal first lentTo accessOf wrongRegion shortTable missing present wrongWidth misaligned outside forbidden isConnected
+store-refusal h region id at bs = refl
+
+-- the last check of a store comes after those of its range
+pub store-facts : (ws : List ℕ) (region id at n r : ℕ) →
+    r
+    ≡ first
+    ((admission (hubOf ws) true region false 0 id ++ rangeRows (hubOf ws .settings) at n) ++ storeRows (hubOf ws .settings) id at n) →
+    (r
+    ≡ first
+    ((admission (hubOf ws) true region false 0 id ++ rangeRows (hubOf ws .settings) at n) ++ storeRows (hubOf ws .settings) id at n))
+    × ((r ≡ 0 → Admitted ws id) × (r ≡ 0 → InSection (hubOf ws .settings) true region at n))
+store-facts ws region id at n r e =
+    let range : r ≡ 0 → 0 ≡ first (admission (hubOf ws) true region false 0 id ++ rangeRows (hubOf ws .settings) at n) =
+        λ z.
+        sym
+        (first-parts (admission (hubOf ws) true region false 0 id ++ rangeRows (hubOf ws .settings) at n)
+        (storeRows (hubOf ws .settings) id at n) refl (sym e ∙ z) .0) in
+    (e
+    , (λ z. range-facts ws true region id at n 0 (range z) .1 .0 refl
+    , λ z. range-facts ws true region id at n 0 (range z) .1 .1 refl))

@@ -8,7 +8,7 @@ use lib.Dec.{eqb, leb, ltb}
 use lib.ListN.{length}
 use Rattle.common.specs.Tests.{Row, row}
 use Rattle.device.specs.declared.Settings.{Settings}
-use Rattle.device.specs.Sections.{sectionOf, somewhere}
+use Rattle.device.specs.Sections.{sectionOf, somewhere, mayStore}
 use Rattle.device.specs.SetUp.{accepted, total}
 use Rattle.device.specs.Sizes.{maxPeers}
 use Rattle.device.specs.Sound.{sound}
@@ -45,6 +45,10 @@ anyWidth width = eqb width 1 || eqb width 2 || eqb width 4
 abbrev pub rangeRows : Settings → ℕ → ℕ → List Row
 rangeRows s offset length = row 6 (eqb length 0) ∷ row 8 (not (somewhere (sectionOf s offset length))) ∷ []
 
+-- a range that is to be stored to
+abbrev pub storeRows : Settings → ℕ → ℕ → ℕ → List Row
+storeRows s who offset length = row 9 (not (mayStore who (sectionOf s offset length))) ∷ []
+
 -- what is known of a caller that these checks let pass, and of its access to a space
 pub record Admitted (ws : List ℕ) (id : ℕ) : Type 0 where
   pub room : length ws ≡ hubWords
@@ -55,6 +59,12 @@ pub record Admitted (ws : List ℕ) (id : ℕ) : Type 0 where
 pub record Inside (size : ℕ) (allowed : Bool) (at w : ℕ) : Type 0 where
   pub width : allowed ≡ true
   pub fits : at + w ≤ size
+
+-- a range of the shared region, and the region's length where it is lent
+pub record InSection (s : Settings) (regional : Bool) (region offset length : ℕ) : Type 0 where
+  pub some : 0 < length
+  pub fits : offset + length ≤ total s
+  pub lent : regional ≡ true → region ≡ total s
 
 -- what is known of a set-up that is accepted
 pub record SetUpFacts (words : ℕ) (s : Settings) : Type 0 where

@@ -26,6 +26,17 @@ pub record Changes (before after : List ℕ) (c : Call) (r : Reply) : Type 0 whe
   pub hub : (region : List ℕ) → hubOf after ≡ step (world (hubOf before) region) c .world .hub
   pub kept : (r .number ≡ 0 → ⊥) → after ≡ before
 
+-- A load: an accepted one fills the whole buffer, a refused one leaves it.
+pub record Loads (hub region before after : List ℕ) (c : Call) (r : Reply) : Type 0 where
+  pub reply : r ≡ replyOf (step (world (hubOf hub) region) c)
+  pub filled : r .number ≡ 0 → after ≡ step (world (hubOf hub) region) c .loaded
+  pub kept : (r .number ≡ 0 → ⊥) → after ≡ before
+
+-- A store: the region is the step's, and the hub, which is not lent to be changed, is the step's too.
+pub record Stores (hub before after : List ℕ) (c : Call) (r : Reply) : Type 0 where
+  pub reply : r ≡ replyOf (step (world (hubOf hub) before) c)
+  pub region : world (hubOf hub) after ≡ step (world (hubOf hub) before) c .world
+
 -- the set-up numbers in the order of the rules: N, V, S, R, O, base, protocol type, subsystem vendor, subsystem id
 abbrev pub numbers : ℕ → ℕ → ℕ → ℕ → ℕ → ℕ → ℕ → ℕ → ℕ → Settings
 numbers n v s r o base protocol vendor subsystem =

@@ -2,6 +2,7 @@
 mod joining;
 mod reads;
 mod refusals;
+mod shared;
 mod writes;
 
 pub use joining::connect;
@@ -10,5 +11,7 @@ pub use reads::configuration_read;
 pub use reads::msix_read;
 pub use reads::register_read;
 pub use reads::section_question;
+pub use shared::load;
+pub use shared::store;
 pub use writes::configuration_write;
 pub use writes::msix_write;

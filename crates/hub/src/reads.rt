@@ -82,16 +82,11 @@ fn unanswered(number: u32) -> SectionReply
 pub fn section_question(hub: &[u32], id: u64, offset: u64, length: u64) -> SectionReply
     ensures { λ r. ⌜ AnswersQuestion (now (hub .entry)) (call id (Call.Act.question offset length)) r ⌝ }
 {
-    let number = refusals::admitted(hub, false, 0, false, 0, id);
+    let number = refusals::range_refusal(hub, false, 0, id, offset, length);
     if number != 0 {
         return unanswered(number);
     }
-    let s = words::settings(hub);
-    let number = refusals::range(s, offset, length);
-    if number != 0 {
-        return unanswered(number);
-    }
-    let kind = sections::section_of(s, offset, length);
+    let kind = sections::section_of(words::settings(hub), offset, length);
     let section = sections::answer(id, kind);
     let reply = refusals::answered(0);
     SectionReply { reply, section }

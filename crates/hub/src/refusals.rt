@@ -8,7 +8,7 @@ ghost use Prim.Native.Nat.{_≤_, _<_};
 ghost use Rattle.common.specs.Tests.{first};
 ghost use Rattle.device.specs.SetUp.{accepted};
 ghost use Rattle.words.specs.Layout.{hubOf};
-ghost use Rattle.hub.specs.Admission.{admission, spaceRows, rangeRows, Admitted, Inside};
+ghost use Rattle.hub.specs.Admission.{admission, spaceRows, rangeRows, storeRows, Admitted, Inside, InSection};
 
 // An answer that reads nothing: 0 or the refusal's number, with value 0.
 pub fn answered(number: u32) -> Reply
@@ -88,6 +88,36 @@ pub fn range(s: Settings, offset: u64, length: u64) -> u32
     let inside = sections::is_somewhere(sections::section_of(s, offset, length));
     if !inside {
         return 8;
+    }
+    0
+}
+
+// A call with a range of the shared region, lent or not.
+pub fn range_refusal(hub: &[u32], regional: bool, region: u64, id: u64, offset: u64, length: u64) -> u32
+    ensures is { λ r. ⌜ r ≡ first (admission (hubOf (now (hub .entry))) regional region false 0 id ++ rangeRows (hubOf (now (hub .entry)) .settings) offset length) ⌝ }
+    ensures caller { λ r. ⌜ (r ≡ 0 → Admitted (now (hub .entry)) id) ⌝ }
+    ensures access { λ r. ⌜ (r ≡ 0 → InSection (hubOf (now (hub .entry)) .settings) regional region offset length) ⌝ }
+{
+    let number = admitted(hub, regional, region, false, 0, id);
+    if number != 0 {
+        return number;
+    }
+    range(words::settings(hub), offset, length)
+}
+
+// The same with 9, for a range that is to be stored to.
+pub fn store_refusal(hub: &[u32], region: u64, id: u64, offset: u64, length: u64) -> u32
+    ensures is { λ r. ⌜ r ≡ first ((admission (hubOf (now (hub .entry))) true region false 0 id ++ rangeRows (hubOf (now (hub .entry)) .settings) offset length) ++ storeRows (hubOf (now (hub .entry)) .settings) id offset length) ⌝ }
+    ensures caller { λ r. ⌜ (r ≡ 0 → Admitted (now (hub .entry)) id) ⌝ }
+    ensures access { λ r. ⌜ (r ≡ 0 → InSection (hubOf (now (hub .entry)) .settings) true region offset length) ⌝ }
+{
+    let number = range_refusal(hub, true, region, id, offset, length);
+    if number != 0 {
+        return number;
+    }
+    let allowed = sections::may_store(id, sections::section_of(words::settings(hub), offset, length));
+    if !allowed {
+        return 9;
     }
     0
 }

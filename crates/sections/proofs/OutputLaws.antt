@@ -14,7 +14,7 @@ use Rattle.device.specs.declared.SectionKind.the-variants.{Nothing, StateTable,
 use Rattle.device.specs.declared.Settings.{Settings}
 use Rattle.device.specs.Ring.{peerId}
 use Rattle.device.specs.SetUp.{total}
-use Rattle.device.specs.Sections.{outputs, sections, sectionIn, sectionOf}
+use Rattle.device.specs.Sections.{outputs, sections, sectionIn, sectionOf, somewhere}
 
 -- the output section of peer k holds the range
 abbrev pub heldBy : Settings → ℕ → ℕ → ℕ → Bool
@@ -158,3 +158,16 @@ module _ (s : Settings) (offset length : ℕ) where
   pub in-outputs : s .table < offset + length → (leb (s .table) offset && leb (offset + length) (s .table + s .common)) ≡ false →
       sectionOf s offset length ≡ sectionIn offset length (outputs s 0 (s .peers))
   in-outputs h e = past-table h ∙ rw e
+
+  -- a range that lies in a section lies in the region
+  pub held-fits : somewhere (sectionOf s offset length) ≡ true → offset + length ≤ total s
+  unfolding somewhere
+  held-fits e = by (leb (offset + length) (total s)) refl
+    where
+      by : (b : Bool) → leb (offset + length) (total s) ≡ b → offset + length ≤ total s
+      by true f = leb-true _ _ f
+      by false f =
+          let past : somewhere (sectionOf s offset length) ≡ false =
+              ap (λ (k : SectionKind). somewhere k) (beyond (leb-false _ _ f)) in
+          let z : _≡_ {A = ℕ} 0 1 = cc in
+          absurd (omega arith)
