@@ -63,7 +63,7 @@ taken w c e =
 
 -- What a call leaves in the caller's slot is sound.
 
-abbrev Sound : Settings → ℕ → Slot → Type 0
+abbrev pub Sound : Settings → ℕ → Slot → Type 0
 Sound s i slot = slotSound s i slot ≡ true
 
 stored-sound : (s : Settings) (who : ℕ) (slot : Slot) (r : Register) (x : ℕ) → who < s .peers → slot .peer .connected ≡ 1 → Sound s who slot
@@ -119,7 +119,7 @@ effect-sound s who slot region (store at bs) h m e = e
 
 -- Command bit 1: what a call leaves in the caller's slot is what the accepted calls say.
 
-abbrev Tracks : Bool → Slot → Type 0
+abbrev pub Tracks : Bool → Slot → Type 0
 Tracks on slot = slot .peer .connected ≡ 1 → memoryOn (slot .peer) ≡ on
 
 memory-byte : (s : Settings) (p : Peer) → memoryOn p ≡ bit 1 (configurationByte s p 0x04)
@@ -201,7 +201,7 @@ memory-other i c past d = rw (ne-eqb (c .who) i (λ e. d (sym e)))
 
 -- The worlds of a history.
 
-abbrev framed : Settings → Frame
+abbrev pub framed : Settings → Frame
 framed s = record { settings = s; slots = maxPeers; room = total s }
 
 pub record Fit (s : Settings) (w : World) : Type 0 where

@@ -101,7 +101,7 @@ Every P n hub = (i : ℕ) → i < n → P i (slotAt hub i)
 abbrev EveryOther : (ℕ → Slot → Type 0) → ℕ → ℕ → Hub → Type 0
 EveryOther P n who hub = (i : ℕ) → i < n → (i ≡ who → ⊥) → P i (slotAt hub i)
 
-module _ (P : ℕ → Slot → Type 0) (keeps : (i : ℕ) (g : Gate) (slot : Slot) → P i slot → P i (afterDelivery g slot)) (n who : ℕ) (small : who < n) where
+module _ (P : ℕ → Slot → Type 0) (keeps : (i : ℕ) (g : Gate) (slot : Slot) → P i slot → P i (afterDelivery g slot)) (n : ℕ) where
   rings-keep : {h k : Hub} → Rings h k → Every P n h → Every P n k
   rings-keep none all = all
   rings-keep (delivered {h = h} j g r) all =
@@ -111,6 +111,10 @@ module _ (P : ℕ → Slot → Type 0) (keeps : (i : ℕ) (g : Gate) (slot : Slo
       (λ e. subst (λ (k : ℕ). P i (afterDelivery g (slotAt h k))) e (keeps i g (slotAt h i) (all i l)))
       (all i l))
 
+  pub ring-keeps : (hub : Hub) (t : PeerId) (v : Vector) → Every P n hub → Every P n (ring hub t v .hub)
+  ring-keeps hub t v all = rings-keep (ring-rings hub t v) all
+
+module _ (P : ℕ → Slot → Type 0) (keeps : (i : ℕ) (g : Gate) (slot : Slot) → P i slot → P i (afterDelivery g slot)) (n who : ℕ) (small : who < n) where
   whole : (hub : Hub) → EveryOther P n who hub → P who (slotAt hub who) → Every P n hub
   whole hub others mine i l = by-equal i who (λ (e : i ≡ who). rw e mine) (λ d. others i l d)
 
@@ -126,10 +130,10 @@ module _ (P : ℕ → Slot → Type 0) (keeps : (i : ℕ) (g : Gate) (slot : Slo
   runAll-keeps w (Operation.write at bs ∷ os) size others leaves =
       runAll-keeps (run who w (Operation.write at bs) .world) os size others leaves
   runAll-keeps w (Operation.ringOne t v ∷ os) size others leaves =
-      let after = rings-keep (ring-rings (w .hub) t v) (whole (w .hub) others (leaves .0)) in
+      let after = ring-keeps P keeps n (w .hub) t v (whole (w .hub) others (leaves .0)) in
       runAll-keeps (run who w (Operation.ringOne t v) .world) os (ap (λ (f : Frame). f .slots) (run-frame who w (Operation.ringOne t v)) ∙ size)
       (λ i l d. after i l) (leaves .1 _ (after who small))
   runAll-keeps w (Operation.ringOthers ∷ os) size others leaves =
-      let after = rings-keep (run-rings who w) (whole (w .hub) others (leaves .0)) in
+      let after = rings-keep P keeps n (run-rings who w) (whole (w .hub) others (leaves .0)) in
       runAll-keeps (run who w Operation.ringOthers .world) os (ap (λ (f : Frame). f .slots) (run-frame who w Operation.ringOthers) ∙ size)
       (λ i l d. after i l) (leaves .1 _ (after who small))

@@ -207,7 +207,7 @@ module _ (b : ℕ) where
           ∙ sym (ring-nobody w′ (vector 0) (omega (arith, ltb-false b n h)))
 
 -- What of the operations of a call reaches the peer, by whether the call is its own: all that it sees of them.
-pub reach : ℕ → Bool → List Operation → List Operation
+unfoldable pub reach : ℕ → Bool → List Operation → List Operation
 reach b mine [] = []
 reach b true (Operation.own new ∷ os) = Operation.own new ∷ reach b true os
 reach b false (Operation.own new ∷ os) = reach b false os
