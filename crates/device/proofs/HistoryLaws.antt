@@ -243,12 +243,15 @@ module _ (s : Settings) (w : World) (c : Call) (a : accepted s ≡ true) (f : Fi
   small : refusal w c ≡ 0 → c .who < s .peers
   small e = rw same at (taken w c e .small)
 
+  pub taken-small : refusal w c ≡ 0 → c .who < maxPeers
+  taken-small e = le-trans (small e) (accepted-facts s a .peers)
+
   slots-keep : (P : ℕ → Slot → Type 0) → ((i : ℕ) (g : Gate) (slot : Slot) → P i slot → P i (afterDelivery g slot)) → refusal w c ≡ 0
       → ((i : ℕ) → i < maxPeers → (i ≡ c .who → ⊥) → P i (slotAt (w .hub) i))
       → Leaves (P (c .who)) (slotAt (w .hub) (c .who)) (effectIn w c .operations) → Every P maxPeers (step w c .world .hub)
   slots-keep P keeps e others leaves =
       rw (taken-world w c e)
-      (runAll-keeps P keeps maxPeers (c .who) (le-trans (small e) (accepted-facts s a .peers)) w (effectIn w c .operations)
+      (runAll-keeps P keeps maxPeers (c .who) (taken-small e) w (effectIn w c .operations)
       (ap (λ (x : Frame). x .slots) (f .fixed)) others leaves)
 
   taken-fit : refusal w c ≡ 0 → Fit s (step w c .world)
@@ -260,7 +263,7 @@ module _ (s : Settings) (w : World) (c : Call) (a : accepted s ≡ true) (f : Fi
           slots-keep (Sound s) (delivery-sound s) e (λ i h d. f .slots i h)
           (subst (λ (x : Settings). Leaves (Sound s (c .who)) (slotAt (w .hub) (c .who)) (effect x (c .who) (slotAt (w .hub) (c .who)) (w .region) (c .act) .operations)) (sym same)
           (effect-sound s (c .who) (slotAt (w .hub) (c .who)) (w .region) (c .act) (small e) (taken w c e .there)
-          (f .slots (c .who) (le-trans (small e) (accepted-facts s a .peers))))) }
+          (f .slots (c .who) (taken-small e)))) }
 
   pub step-fit : Fit s (step w c .world)
   step-fit = by-equal (refusal w c) 0 taken-fit (λ n. subst (Fit s) (sym (refused-world w c n)) f)
@@ -271,7 +274,7 @@ module _ (s : Settings) (w : World) (c : Call) (a : accepted s ≡ true) (f : Fi
       (λ i h d. rw (memory-other i c past d) (m i h))
       (rw (memory-own c past)
       (effect-memory (w .hub .settings) (c .who) (slotAt (w .hub) (c .who)) (w .region) (c .act) (memoryBit (c .who) past)
-      (m (c .who) (le-trans (small e) (accepted-facts s a .peers)))))
+      (m (c .who) (taken-small e))))
 
   pub step-remembered : (past : List Call) → Remembered past w → Remembered (cond (isAccepted w c) (c ∷ past) past) (step w c .world)
   step-remembered past m =

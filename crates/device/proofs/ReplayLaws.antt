@@ -71,7 +71,7 @@ replay-both b w (x ∷ xs) ys =
     ∙ ap (λ (hs : List Observation). told (replay b (replay b (tell b w x .world) xs .world) ys .world) hs)
     (sym (append-assoc (tell b w x .heard) (replay b (tell b w x .world) xs .heard) (replay b (replay b (tell b w x .world) xs .world) ys .heard)))
 
-replay-one : (b : ℕ) (w : World) (x : Item) → replay b w (x ∷ []) ≡ tell b w x
+pub replay-one : (b : ℕ) (w : World) (x : Item) → replay b w (x ∷ []) ≡ tell b w x
 unfolding replay
 replay-one b w x = ap (λ (hs : List Observation). told (tell b w x .world) hs) (append-nil (tell b w x .heard))
 
@@ -114,7 +114,7 @@ own-by b a w w′ zero e =
 own-by b a w w′ (suc n) e =
     ap (λ (x : View). heardFirst (answerTo b (call b a) (refused (suc n) w)) (record { view = x; heard = [] })) e
 
-own-seen : (b : ℕ) (a : Act) (w w′ : World) → sound (w .hub) ≡ true → sound (w′ .hub) ≡ true → view b w ≡ view b w′
+pub own-seen : (b : ℕ) (a : Act) (w w′ : World) → sound (w .hub) ≡ true → sound (w′ .hub) ≡ true → view b w ≡ view b w′
     → seen b (toldBy b (call b a) (step w (call b a))) ≡ seen b (toldBy b (call b a) (step w′ (call b a)))
 unfolding step
 own-seen b a w w′ h h′ e = rw (refusal-alike b a w w′ h h′ e) (own-by b a w w′ (refusal w′ (call b a)) e)
@@ -134,7 +134,7 @@ stored-told b who slot Register.doorbell x w =
 stored-told b who slot Register.state x w = replay-one b w (Item.word who _)
 stored-told b who slot Register.none x w = refl
 
-sent-told : (b who : ℕ) (s : Settings) (slot : Slot) (region : List ℕ) (a : Act) (on : Bool) (w : World)
+pub sent-told : (b who : ℕ) (s : Settings) (slot : Slot) (region : List ℕ) (a : Act) (on : Bool) (w : World)
     → missing (eqb (slot .peer .connected) 1) (accessOf a) ≡ false → Tracks on slot
     → replay b w (sent b who on a) ≡ toldOf b (runAll b w (reach b false (effect s who slot region a .operations)))
 unfolding replay tell sent effect announces reach runAll deliveriesTo resetSlot missing accessOf
