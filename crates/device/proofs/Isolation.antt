@@ -18,7 +18,7 @@ use Rattle.device.specs.Sizes.{maxPeers}
 use Rattle.device.specs.Step.{Outcome, refused, done, effectIn, runAll, step}
 use Rattle.device.specs.Window.{Item, memoryBit, sent, items, isAccepted, windowFrom, window, Alike, Isolation}
 use Rattle.device.specs.World.{Slot, World, slotAt}
-use Rattle.device.proofs.HistoryLaws.{Fit, Remembered, fit-sound, start-fit, start-remembered, step-fit, step-remembered, taken, taken-small}
+use Rattle.device.proofs.HistoryLaws.{Fit, Tracks, Remembered, fit-sound, start-fit, start-remembered, step-fit, step-remembered, taken, taken-small}
 use Rattle.device.proofs.ReplayLaws.{Told, told, seen, andThen, toldOf, toldBy, tell, replay, replay-both, replay-one, replay-fit, own-seen, sent-told}
 use Rattle.device.proofs.SeenLaws.{View, view, Sight, sight, heardFirst, reach, all-seen}
 use Rattle.device.proofs.StepLaws.{accepted-effect, refused-changes-nothing}
@@ -38,26 +38,27 @@ module _ (s : Settings) (a : accepted s ≡ true) (b : ℕ) (w w′ : World) (f 
       (own-seen b act w w′ (fit-sound s w a f) (fit-sound s w′ a f′) e ∙ ap (λ (r : Told). seen b r) (sym (replay-one b w′ (Item.own act))))
 
   taken-call : (past : List Call) (c : Call) → Remembered past w → (c .who ≡ b → ⊥) → refusal w c ≡ 0
-      → seen b (toldBy b c (step w c)) ≡ seen b (replay b w′ (sent b (c .who) (memoryBit (c .who) past) (c .act)))
-  unfolding isConnected
+      → seen b (toldBy b c (step w c)) ≡ seen b (replay b w′ (items b past true c))
+  unfolding isConnected items
   taken-call past c m d r =
-      let os : List Operation = effectIn w c .operations in
+      let slot : Slot = slotAt (w .hub) (c .who) in
+      let memory : Tracks (memoryBit (c .who) past) slot = m (c .who) (taken-small s w c a f r) in
       no-answer c (step w c) d
       ∙ ap (λ (o : Outcome). record { view = view b (o .world); heard = deliveriesTo b (o .deliveries) }) (accepted-effect w c r)
-      ∙ all-seen b (c .who) false (ne-eqb (c .who) b d) os w w′ e
-      ∙ ap (λ (x : Told). seen b x)
-      (sym (sent-told b (c .who) (w .hub .settings) (slotAt (w .hub) (c .who)) (w .region) (c .act) (memoryBit (c .who) past) w′ (taken w c r .there) (m (c .who) (taken-small s w c a f r))))
+      ∙ all-seen b (c .who) false (ne-eqb (c .who) b d) (effectIn w c .operations) w w′ e
+      ∙ rw (ne-eqb (c .who) b d)
+      (ap (λ (x : Told). seen b x) (sym (sent-told b (c .who) (w .hub .settings) slot (w .region) (c .act) _ w′ (taken w c r .there) memory)))
 
-  refused-call : (c : Call) → (c .who ≡ b → ⊥) → (refusal w c ≡ 0 → ⊥) → seen b (toldBy b c (step w c)) ≡ seen b (replay b w′ [])
-  unfolding replay deliveriesTo
-  refused-call c d n =
+  refused-call : (past : List Call) (c : Call) → (c .who ≡ b → ⊥) → (refusal w c ≡ 0 → ⊥)
+      → seen b (toldBy b c (step w c)) ≡ seen b (replay b w′ (items b past false c))
+  unfolding replay deliveriesTo items
+  refused-call past c d n =
       no-answer c (step w c) d
       ∙ ap (λ (o : Outcome). record { view = view b (o .world); heard = deliveriesTo b (o .deliveries) }) (refused-changes-nothing w c n)
-      ∙ ap (λ (x : View). record { view = x; heard = [] }) e
+      ∙ rw (ne-eqb (c .who) b d) (ap (λ (x : View). record { view = x; heard = [] }) e)
 
   call-seen : (past : List Call) (c : Call) → Remembered past w
       → seen b (toldBy b c (step w c)) ≡ seen b (replay b w′ (items b past (isAccepted w c) c))
-  unfolding items
   call-seen past c m =
       by-equal (c .who) b
       (λ (q : c .who ≡ b).
@@ -65,8 +66,8 @@ module _ (s : Settings) (a : accepted s ≡ true) (b : ℕ) (w w′ : World) (f 
       (sym q) (own-call past (c .act)))
       (λ (d : c .who ≡ b → ⊥).
       by-equal (refusal w c) 0
-      (λ (r : refusal w c ≡ 0). rw (ne-eqb (c .who) b d, eq-eqb (refusal w c) 0 r) (taken-call past c m d r))
-      (λ (n : refusal w c ≡ 0 → ⊥). rw (ne-eqb (c .who) b d, ne-eqb (refusal w c) 0 n) (refused-call c d n)))
+      (λ (r : refusal w c ≡ 0). rw (eq-eqb (refusal w c) 0 r) (taken-call past c m d r))
+      (λ (n : refusal w c ≡ 0 → ⊥). rw (ne-eqb (refusal w c) 0 n) (refused-call past c d n)))
 
 -- The whole list of calls.
 

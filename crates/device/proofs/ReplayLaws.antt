@@ -12,7 +12,7 @@ use Rattle.common.proofs.TestLaws.{by-equal}
 use Rattle.device.specs.declared.Settings.{Settings}
 use Rattle.device.specs.Call.{Act, Call, call}
 use Rattle.device.specs.Call.Act.{connect, disconnect, reset, configurationRead, configurationWrite, registerRead, registerWrite, msixRead, msixWrite, question, load, store}
-use Rattle.device.specs.Effect.{Effect, Operation, announces, effect, registerStored, rungPeer, rungVector}
+use Rattle.device.specs.Effect.{Effect, Operation, announces, effect, registerStored, rungPeer, rungVector, stateValue}
 use Rattle.device.specs.History.{Observation, deliveriesTo, answerTo}
 use Rattle.device.specs.Msix.{msixWritten}
 use Rattle.device.specs.Refusal.{accessOf, missing, isConnected, refusal}
@@ -131,7 +131,7 @@ stored-told b who slot Register.doorbell x w =
     by-equal (rungPeer x .0) b
     (λ (e : rungPeer x .0 ≡ b). rw (eq-eqb (rungPeer x .0) b e, e) (replay-one b w (Item.bell (rungVector x))))
     (λ (d : rungPeer x .0 ≡ b → ⊥). rw (ne-eqb (rungPeer x .0) b d))
-stored-told b who slot Register.state x w = replay-one b w (Item.word who _)
+stored-told b who slot Register.state x w = replay-one b w (Item.word who (stateValue x))
 stored-told b who slot Register.none x w = refl
 
 pub sent-told : (b who : ℕ) (s : Settings) (slot : Slot) (region : List ℕ) (a : Act) (on : Bool) (w : World)
