@@ -24,7 +24,7 @@ use Rattle.device.specs.Configuration.{within, fields, fieldByte, config
 use Rattle.device.specs.Effect.{Operation, announces, effect, registerStored, stateValue, withState}
 use Rattle.device.specs.History.{start}
 use Rattle.device.specs.Msix.{msixWritten, withWord, inTable}
-use Rattle.device.specs.Refusal.{Access, accessOf, missing, isConnected, refusal, forbidden}
+use Rattle.device.specs.Refusal.{Access, accessOf, missing, present, forbidden, isConnected, refusal}
 use Rattle.device.specs.Registers.{Register, registerAt, memoryOn}
 use Rattle.device.specs.Ring.{withInterrupt, afterDelivery}
 use Rattle.device.specs.SetUp.{accepted, total, freshHub}
@@ -44,6 +44,7 @@ use Rattle.device.proofs.StepLaws.{accepted-effect, refused-changes-not
 pub record Taken (w : World) (c : Call) : Type 0 where
   pub small : c .who < w .hub .settings .peers
   pub there : missing (isConnected w (c .who)) (accessOf (c .act)) ≡ false
+  pub absent : present (isConnected w (c .who)) (accessOf (c .act)) ≡ false
   pub permitted : forbidden (w .hub .settings) (c .who) (accessOf (c .act)) ≡ false
 
 pub taken : (w : World) (c : Call) → refusal w c ≡ 0 → Taken w c
@@ -59,7 +60,7 @@ taken w c e =
     let r7 = first-zero 6 _ _ (r6 .1) in
     let r8 = first-zero 7 _ _ (r7 .1) in
     let r9 = first-zero 8 _ _ (r8 .1) in
-    record { small = leb-false _ _ (r3 .0); there = r4 .0; permitted = r9 .0 }
+    record { small = leb-false _ _ (r3 .0); there = r4 .0; absent = r5 .0; permitted = r9 .0 }
 
 -- What a call leaves in the caller's slot is sound.
 
@@ -230,23 +231,23 @@ unfolding start freshHub memoryBit memoryOn resetSlot
 start-remembered s i h = rw (getD-replicate maxPeers i (resetSlot 0) zeroSlot h) (λ c. refl)
 
 -- an accepted call, and what it keeps of every slot
-taken-world : (w : World) (c : Call) → refusal w c ≡ 0 → step w c .world ≡ runAll (c .who) w (effectIn w c .operations) .world
+pub taken-world : (w : World) (c : Call) → refusal w c ≡ 0 → step w c .world ≡ runAll (c .who) w (effectIn w c .operations) .world
 taken-world w c e = ap (λ (o : Outcome). o .world) (accepted-effect w c e)
 
-refused-world : (w : World) (c : Call) → (refusal w c ≡ 0 → ⊥) → step w c .world ≡ w
+pub refused-world : (w : World) (c : Call) → (refusal w c ≡ 0 → ⊥) → step w c .world ≡ w
 refused-world w c n = ap (λ (o : Outcome). o .world) (refused-changes-nothing w c n)
 
 module _ (s : Settings) (w : World) (c : Call) (a : accepted s ≡ true) (f : Fit s w) where
-  same : w .hub .settings ≡ s
+  pub same : w .hub .settings ≡ s
   same = ap (λ (x : Frame). x .settings) (f .fixed)
 
-  small : refusal w c ≡ 0 → c .who < s .peers
+  pub small : refusal w c ≡ 0 → c .who < s .peers
   small e = rw same at (taken w c e .small)
 
   pub taken-small : refusal w c ≡ 0 → c .who < maxPeers
   taken-small e = le-trans (small e) (accepted-facts s a .peers)
 
-  slots-keep : (P : ℕ → Slot → Type 0) → ((i : ℕ) (g : Gate) (slot : Slot) → P i slot → P i (afterDelivery g slot)) → refusal w c ≡ 0
+  pub slots-keep : (P : ℕ → Slot → Type 0) → ((i : ℕ) (g : Gate) (slot : Slot) → P i slot → P i (afterDelivery g slot)) → refusal w c ≡ 0
       → ((i : ℕ) → i < maxPeers → (i ≡ c .who → ⊥) → P i (slotAt (w .hub) i))
       → Leaves (P (c .who)) (slotAt (w .hub) (c .who)) (effectIn w c .operations) → Every P maxPeers (step w c .world .hub)
   slots-keep P keeps e others leaves =

@@ -14,7 +14,7 @@ use Rattle.common.specs.Bytes.{only}
 use Rattle.common.specs.Tests.{every, below}
 use Rattle.common.proofs.ListLaws.{getD-set}
 use Rattle.common.proofs.MaskLaws.{only-and}
-use Rattle.common.proofs.TestLaws.{and-left, and-right, every-true, below-true, true-below, by-equal}
+use Rattle.common.proofs.TestLaws.{and-left, and-right, and-false, every-true, below-true, true-below, by-equal}
 use Rattle.device.specs.declared.Entry.{Entry}
 use Rattle.device.specs.declared.Gate.{Gate}
 use Rattle.device.specs.declared.Peer.{Peer}
@@ -61,6 +61,13 @@ pub used-sound : (s : Settings) (i : ℕ) (slot : Slot) → i < s .peers → slo
 used-sound s i slot h c u =
     used-test s i slot (in-use s i (slot .peer) h c)
     ∙ ap₂ (λ (a b : Bool). a && b) (facts-fixed s (slot .peer) (u .fixed)) (true-below maxVectors _ (u .entries))
+
+-- A slot that is not connected holds reset values.
+pub absent-reset : (s : Settings) (i : ℕ) (slot : Slot) → slotSound s i slot ≡ true → eqb (slot .peer .connected) 1 ≡ false → peerReset (slot .peer) ≡ true
+unfolding slotSound peerSound inUse
+absent-reset s i slot e d =
+    rw (and-false (ltb i (s .peers)) (eqb (slot .peer .connected) 1) d) at
+    (and-left (peerSound s i (slot .peer)) (entriesSound (vectorsInUse s i (slot .peer)) slot) e)
 
 -- Reset values are sound, connected or not.
 
