@@ -1,11 +1,11 @@
 -- Laws of `only` and `merge`: a number under a mask keeps to the mask, byte by byte too, and so does a byte that a write merges.
-use Prim.Native.Nat.{ℕ, zero, suc, _+_, _-_, _*_, _/_, _%_, _^_, _<_, min, max}
-use mathlib.Core.Bool.{Bool, true}
-use mathlib.Core.Path.{_≡_, refl, sym, ap, _∙_}
+use Prim.Native.Nat.{ℕ, zero, suc, _+_, _-_, _*_, _/_, _%_, _^_, _<_, min}
+use mathlib.Core.Bool.{true}
+use mathlib.Core.Path.{_≡_, sym, ap, _∙_}
 use native.Mathlib.Omega.{arith}
 use borrow.Author.Tests.{eqb-true, eq-eqb}
 use lib.Arith.{bin-ind}
-use lib.Bits.{bitAnd, bitOr, and-step, or-step, and-zero-l, and-zero-r, or-zero-l, and-block, and-le-r}
+use lib.Bits.{bitAnd, and-step, or-step, and-zero-l, and-zero-r, or-zero-l, and-block, and-le-r}
 use lib.Dec.{eqb}
 use Rattle.common.specs.Bytes.{bit, only, merge}
 

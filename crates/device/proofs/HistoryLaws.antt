@@ -1,17 +1,16 @@
 -- What holds in every world of a history: the settings and sizes of the start, every slot sound, and of each connected peer that
 -- Command bit 1 is what its accepted configuration writes put there.
-use Prim.Native.Nat.{ℕ, zero, suc, _+_, _-_, _/_, _%_, _^_, _<_, _≤_}
-use mathlib.Core.Bool.{Bool, true, false, cond, not, _&&_}
+use Prim.Native.Nat.{ℕ, _-_, _/_, _%_, _^_, _<_}
+use mathlib.Core.Bool.{Bool, true, false, cond, _&&_}
 use mathlib.Core.List.{List, [], _∷_}
 use mathlib.Core.Path.{_≡_, refl, sym, ap, ap₂, subst, _∙_}
 use native.Mathlib.Nat.{le-trans}
 use native.Mathlib.Omega.{arith}
-use borrow.Author.Tests.{eqb-true, eqb-false, eq-eqb, ne-eqb, leb-false, not-false}
+use borrow.Author.Tests.{eqb-true, eq-eqb, ne-eqb, leb-false, not-false}
 use lib.Bits.{bitAnd}
-use lib.Dec.{eqb, leb}
-use lib.ListN.{length, getD-replicate, length-replicate}
-use Rattle.common.specs.Bytes.{bit, byte, only, merge}
-use Rattle.common.specs.Tests.{first}
+use lib.Dec.{eqb}
+use lib.ListN.{getD-replicate, length-replicate}
+use Rattle.common.specs.Bytes.{bit, byte, merge}
 use Rattle.common.proofs.MaskLaws.{only-and, bit-merge}
 use Rattle.common.proofs.TestLaws.{true-below, first-zero, by-equal}
 use Rattle.device.specs.declared.Entry.{Entry}
@@ -23,8 +22,8 @@ use Rattle.device.specs.Call.Act.{connect, disconnect, reset, configurat
 use Rattle.device.specs.Configuration.{within, fields, fieldByte, configurationByte, masks, maskIn, maskAt, configurationWritten}
 use Rattle.device.specs.Effect.{Operation, announces, effect, registerStored, stateValue, withState}
 use Rattle.device.specs.History.{start}
-use Rattle.device.specs.Msix.{msixWritten, withWord, inTable}
-use Rattle.device.specs.Refusal.{Access, accessOf, missing, present, forbidden, isConnected, refusal}
+use Rattle.device.specs.Msix.{msixWritten, inTable}
+use Rattle.device.specs.Refusal.{accessOf, missing, present, forbidden, isConnected, refusal}
 use Rattle.device.specs.Registers.{Register, registerAt, memoryOn}
 use Rattle.device.specs.Ring.{withInterrupt, afterDelivery}
 use Rattle.device.specs.SetUp.{accepted, total, freshHub}
@@ -34,10 +33,10 @@ use Rattle.device.specs.Step.{Outcome, runAll, effectIn, step}
 use Rattle.device.specs.Window.{memoryAfter, memoryBit, isAccepted}
 use Rattle.device.specs.World.{Slot, World, zeroSlot, resetSlot, slotAt, withPeer}
 use Rattle.device.proofs.ConfigurationLaws.{written-reads}
-use Rattle.device.proofs.FixedLaws.{Fixed, written-fixed, written-connected}
+use Rattle.device.proofs.FixedLaws.{written-fixed, written-connected}
 use Rattle.device.proofs.KeepingLaws.{Frame, frame, Every, Leaves, runAll-frame, runAll-keeps}
 use Rattle.device.proofs.SetUpLaws.{accepted-facts}
-use Rattle.device.proofs.SoundLaws.{Used, used, absent-sound, present-sound, delivery-sound, peer-sound, msix-sound}
+use Rattle.device.proofs.SoundLaws.{used, absent-sound, present-sound, delivery-sound, peer-sound, msix-sound}
 use Rattle.device.proofs.StepLaws.{accepted-effect, refused-changes-nothing}
 
 -- What an accepted call tells of the caller.

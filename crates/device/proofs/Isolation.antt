@@ -1,26 +1,22 @@
 -- Demand 3, isolation: what a peer observes of a history, and its view at the end, are the replay of its window, so two histories
 -- with equal windows are alike to it.
-use Prim.Native.Nat.{ℕ, zero, suc, _<_}
-use mathlib.Core.Bool.{Bool, true, false, cond}
-use mathlib.Core.List.{List, [], _∷_, _++_, append-nil, append-assoc}
+use Prim.Native.Nat.{ℕ}
+use mathlib.Core.Bool.{true, false, cond}
+use mathlib.Core.List.{List, [], _∷_, append-assoc}
 use mathlib.Core.Path.{_≡_, refl, sym, ap, ap₂, subst, _∙_}
-use native.Mathlib.Nat.{le-trans}
-use borrow.Author.Tests.{eqb-false, eq-eqb, ne-eqb}
-use lib.Dec.{eqb}
+use borrow.Author.Tests.{eq-eqb, ne-eqb}
 use Rattle.common.proofs.TestLaws.{by-equal}
 use Rattle.device.specs.declared.Settings.{Settings}
 use Rattle.device.specs.Call.{Act, Call, call}
-use Rattle.device.specs.Effect.{Operation}
 use Rattle.device.specs.History.{Observation, start, after, observed, deliveriesTo, answerTo, spacesOf}
 use Rattle.device.specs.Refusal.{isConnected, refusal}
 use Rattle.device.specs.SetUp.{accepted}
-use Rattle.device.specs.Sizes.{maxPeers}
-use Rattle.device.specs.Step.{Outcome, refused, done, effectIn, runAll, step}
-use Rattle.device.specs.Window.{Item, memoryBit, sent, items, isAccepted, windowFrom, window, Alike, Isolation}
+use Rattle.device.specs.Step.{Outcome, effectIn, step}
+use Rattle.device.specs.Window.{Item, memoryBit, items, isAccepted, windowFrom, window, Isolation}
 use Rattle.device.specs.World.{Slot, World, slotAt}
 use Rattle.device.proofs.HistoryLaws.{Fit, Tracks, Remembered, fit-sound, start-fit, start-remembered, step-fit, step-remembered, taken, taken-small}
-use Rattle.device.proofs.ReplayLaws.{Told, told, seen, andThen, toldOf, toldBy, tell, replay, replay-both, replay-one, replay-fit, own-seen, sent-told}
-use Rattle.device.proofs.SeenLaws.{View, view, Sight, sight, heardFirst, reach, all-seen}
+use Rattle.device.proofs.ReplayLaws.{Told, seen, toldBy, tell, replay, replay-both, replay-one, replay-fit, own-seen, sent-told}
+use Rattle.device.proofs.SeenLaws.{View, view, Sight, heardFirst, all-seen}
 use Rattle.device.proofs.StepLaws.{accepted-effect, refused-changes-nothing}
 
 -- One call: the peer sees it as the replay of its items, in any world that looks alike to the peer.

@@ -1,18 +1,17 @@
 -- Isolation says something: peer 0 does receive an interrupt; each kind of item of its window is needed, for with the item left out
 -- of a history both the window and what peer 0 observes change; and calls that are no item of the window change neither.
-use Prim.Native.Nat.{ℕ, zero, suc, _*_, _+_, _^_}
-use mathlib.Core.Bool.{Bool, true, false, cond, _&&_}
+use Prim.Native.Nat.{ℕ}
+use mathlib.Core.Bool.{Bool, true, false, _&&_}
 use mathlib.Core.List.{List, [], _∷_, _++_}
-use mathlib.Core.Path.{_≡_, refl, sym, ap, _∙_}
+use mathlib.Core.Path.{_≡_, refl}
 use native.Mathlib.Omega.{arith}
 use borrow.Author.Tests.{eq-eqb}
 use lib.Dec.{eqb}
-use lib.ListN.{length}
 use Rattle.common.specs.Bytes.{bytes, number, setByte}
 use Rattle.common.specs.Tests.{first, every, below}
 use Rattle.device.specs.declared.Delivery.{Delivery}
 use Rattle.device.specs.declared.Settings.{Settings}
-use Rattle.device.specs.Call.{Act, Call, call}
+use Rattle.device.specs.Call.{Call, call}
 use Rattle.device.specs.Call.Act.{connect, disconnect, reset, configurationRead, configurationWrite, registerRead, registerWrite, msixWrite, load, store}
 use Rattle.device.specs.Configuration as Configuration
 use Rattle.device.specs.Configuration.{fields, fieldByte, configurationByte, masks, maskIn, maskAt, maskOf, withByte, writtenByte, configurationWritten}

@@ -3,10 +3,10 @@
 use Prim.Native.Nat.{ℕ, zero, suc, _<_}
 use mathlib.Core.Bool.{Bool, true, false, cond}
 use mathlib.Core.List.{List, [], _∷_}
-use mathlib.Core.Path.{_≡_, refl, sym, ap, subst, _∙_}
+use mathlib.Core.Path.{_≡_, refl, ap, subst, _∙_}
 use lib.Dec.{eqb}
-use lib.ListN.{length, length-set, set, getD}
-use lib.Seq.{getD-set-same, getD-set-other, sets, length-sets}
+use lib.ListN.{length, length-set}
+use lib.Seq.{getD-set-same, getD-set-other, length-sets}
 use Rattle.common.proofs.ListLaws.{getD-set}
 use Rattle.common.proofs.TestLaws.{by-equal}
 use Rattle.device.specs.declared.Delivery.{Delivery}
@@ -17,7 +17,7 @@ use Rattle.device.specs.declared.Target.{Target}
 use Rattle.device.specs.declared.Target.the-variants.{Live, Nobody}
 use Rattle.device.specs.declared.Vector.{Vector}
 use Rattle.device.specs.Effect.{Operation}
-use Rattle.device.specs.Ring.{Rung, rung, peerId, vector, opens, target, afterDelivery, ringAt, ring, ringFrom}
+use Rattle.device.specs.Ring.{rung, peerId, vector, opens, target, afterDelivery, ringAt, ring, ringFrom}
 use Rattle.device.specs.Ring as Ring
 use Rattle.device.specs.Step.{run, runAll}
 use Rattle.device.specs.World.{Hub, Slot, World, world, zeroSlot, slotAt, withSlot}

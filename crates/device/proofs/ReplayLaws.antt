@@ -1,10 +1,9 @@
 -- A peer's window, replayed: what the peer is told by its window alone, starting from any world. Each call looks to the peer like
 -- the replay of its items.
-use Prim.Native.Nat.{ℕ, zero, suc, _*_, _<_}
+use Prim.Native.Nat.{ℕ, zero, suc, _*_}
 use mathlib.Core.Bool.{Bool, true, false, cond}
 use mathlib.Core.List.{List, [], _∷_, _++_, append-nil, append-assoc}
-use mathlib.Core.Path.{_≡_, refl, sym, ap, ap₂, subst, _∙_}
-use native.Mathlib.Omega.{arith}
+use mathlib.Core.Path.{_≡_, refl, sym, ap, ap₂, _∙_}
 use borrow.Author.Tests.{eqb-true, eq-eqb, ne-eqb, not-false}
 use lib.Dec.{eqb}
 use Rattle.common.specs.Bytes.{bytes}
@@ -22,13 +21,12 @@ use Rattle.device.specs.SetUp.{accepted}
 use Rattle.device.specs.Sizes.{maxPeers}
 use Rattle.device.specs.Sound.{sound}
 use Rattle.device.specs.Step.{Ran, ran, Outcome, refused, done, effectIn, run, runAll, stepBy, step}
-use Rattle.device.specs.Window.{Item, memoryBit, sentBy, sent, items, isAccepted}
+use Rattle.device.specs.Window.{Item, sentBy, sent}
 use Rattle.device.specs.World.{Slot, World, resetSlot, slotAt}
-use Rattle.device.proofs.HistoryLaws.{Sound, Fit, Remembered, Tracks, fit-sound, step-fit, taken}
+use Rattle.device.proofs.HistoryLaws.{Sound, Fit, Tracks, step-fit}
 use Rattle.device.proofs.KeepingLaws.{runAll-frame, ring-keeps}
 use Rattle.device.proofs.SeenLaws.{View, view, Sight, sight, heardFirst, reach, all-seen}
 use Rattle.device.proofs.SoundLaws.{delivery-sound}
-use Rattle.device.proofs.StepLaws.{accepted-effect, refused-changes-nothing}
 
 -- a world, and what the peer was given on the way to it
 pub record Told : Type 0 where

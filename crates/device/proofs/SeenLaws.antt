@@ -2,14 +2,13 @@
 -- changes to its slot, writes to the region and rings at its id.
 use Prim.Native.Nat.{ℕ, zero, suc, _+_, _<_, _≤_}
 use mathlib.Core.Bool.{Bool, true, false, cond}
-use mathlib.Core.List.{List, [], _∷_, _++_, append-nil, append-assoc}
+use mathlib.Core.List.{List, [], _∷_, _++_, append-nil}
 use mathlib.Core.Path.{_≡_, refl, sym, ap, ap₂, subst, _∙_}
 use native.Mathlib.Omega.{arith}
 use borrow.Author.Tests.{eqb-true, eqb-false, ltb-true, ltb-false, eq-eqb, ne-eqb, le-ltb}
 use lib.Dec.{eqb, ltb}
 use lib.ListN.{length, length-set}
 use lib.Seq.{getD-set-other, sets}
-use Rattle.common.specs.Tests.{every}
 use Rattle.common.proofs.ListLaws.{getD-set-alike}
 use Rattle.common.proofs.TestLaws.{by-equal, every-false}
 use Rattle.device.specs.declared.Delivery.{Delivery}
@@ -24,7 +23,7 @@ use Rattle.device.specs.History.{Observation, deliveriesTo}
 use Rattle.device.specs.Ring.{Rung, rung, peerId, vector, opens, target, afterDelivery, deliveryOf, ringAt, ring, ringFrom}
 use Rattle.device.specs.Ring as Ring
 use Rattle.device.specs.Step.{Ran, ran, ranRings, run, runAll}
-use Rattle.device.specs.World.{Hub, Slot, World, world, zeroSlot, slotAt, entryAt, withSlot}
+use Rattle.device.specs.World.{Slot, World, world, zeroSlot, slotAt, entryAt, withSlot}
 
 -- of a world: the settings, how many slots there are, the peer's own slot and the region
 pub record View : Type 0 where

@@ -1,24 +1,21 @@
 -- In every world of a history each word of the State Table is that peer's State register: a store to State, a reset and a
 -- disconnect write both, and an accepted shared store lies at or above the end of the State Table.
 use Prim.Native.Nat.{ℕ, zero, suc, _+_, _*_, _/_, _%_, _^_, _<_, _≤_}
-use mathlib.Core.Bool.{Bool, true, false, cond, not, _&&_}
+use mathlib.Core.Bool.{Bool, true, false, cond}
 use mathlib.Core.List.{List, [], _∷_}
 use mathlib.Core.Path.{_≡_, refl, sym, ap, subst, _∙_}
 use native.Mathlib.Nat.{le-trans, add-zero, zero-div}
 use native.Mathlib.Omega.{arith}
 use borrow.Author.Tests.{eqb-true, leb-true, not-false}
-use lib.Dec.{eqb, leb, ltb}
+use lib.Dec.{eqb, leb}
 use lib.ListN.{length, getD, set, length-set, getD-replicate}
 use lib.Seq.{getD-set-same, getD-set-other, sets}
 use Rattle.common.specs.Bytes.{byte, bytes}
-use Rattle.common.specs.Tests.{every}
 use Rattle.common.proofs.ByteLaws.{length-bytes, getD-bytes}
-use Rattle.common.proofs.TestLaws.{and-left, and-false, every-true, by-equal}
+use Rattle.common.proofs.TestLaws.{and-left, every-true, by-equal}
 use Rattle.device.specs.declared.Entry.{Entry}
 use Rattle.device.specs.declared.Gate.{Gate}
 use Rattle.device.specs.declared.Peer.{Peer}
-use Rattle.device.specs.declared.SectionKind.{SectionKind}
-use Rattle.device.specs.declared.SectionKind.the-variants.{Nothing, StateTable, ReadWrite, Output}
 use Rattle.device.specs.declared.Settings.{Settings}
 use Rattle.device.specs.Call.{Act, Call}
 use Rattle.device.specs.Call.Act.{connect, disconnect, reset, configurationRead, configurationWrite, registerRead, registerWrite, msixRead, msixWrite, question, load, store}
@@ -26,13 +23,13 @@ use Rattle.device.specs.Configuration.{withByte, writtenByte, configurat
 use Rattle.device.specs.Effect.{Operation, announces, registerStored, effect, withState, stateValue}
 use Rattle.device.specs.History.{start, after}
 use Rattle.device.specs.Msix.{inTable, msixWritten}
-use Rattle.device.specs.Refusal.{accessOf, missing, present, forbidden, isConnected, refusal}
+use Rattle.device.specs.Refusal.{accessOf, present, forbidden, isConnected, refusal}
 use Rattle.device.specs.Registers.{Register, registerAt, memoryOn}
 use Rattle.device.specs.Ring.{withInterrupt, afterDelivery}
 use Rattle.device.specs.Sections.{Section, outputs, sections, holds, sectionIn, sectionOf, mayStore}
 use Rattle.device.specs.SetUp.{accepted, total, freshHub}
 use Rattle.device.specs.Sizes.{maxPeers}
-use Rattle.device.specs.Sound.{peerReset, inUse, peerSound, slotSound}
+use Rattle.device.specs.Sound.{peerReset}
 use Rattle.device.specs.Step.{run, runAll, effectIn, step}
 use Rattle.device.specs.World.{Slot, World, zeroSlot, resetSlot, slotAt, withPeer}
 use Rattle.device.proofs.HistoryLaws.{Sound, Fit, taken, taken-world, refused-world, same, small, taken-small, slots-keep, start-fit, step-fit}
