@@ -31,13 +31,14 @@ pub record Fixed (s : Settings) (p : Peer) : Type 0 where
 pub fixed-facts : (s : Settings) (p : Peer) → peerFixed s p ≡ true → Fixed s p
 unfolding peerFixed
 fixed-facts s p e =
-    record
-    { command = every-true _ e 0
-    ; bar0 = every-true _ e 1
-    ; bar1 = every-true _ e 2
-    ; privileged = every-true _ e 3
-    ; message = every-true _ e 4
-    ; interrupt = every-true _ e 5 }
+    record {
+      command = every-true _ e 0;
+      bar0 = every-true _ e 1;
+      bar1 = every-true _ e 2;
+      privileged = every-true _ e 3;
+      message = every-true _ e 4;
+      interrupt = every-true _ e 5;
+    }
 
 pub facts-fixed : (s : Settings) (p : Peer) → Fixed s p → peerFixed s p ≡ true
 unfolding peerFixed every
@@ -143,13 +144,14 @@ byte-fixed : (s : Settings) (p : Peer) (at new : ℕ) → Fixed s p → Fixed s 
 unfolding writtenByte withByte
 byte-fixed s p at new f =
     let h = holds s p in
-    record
-    { command = word-only s p 0x04 2 at new (p .command) (omega arith) (command-mask s) (h .0) (f .command)
-    ; bar0 = word-only s p 0x10 4 at new (p .bar0) (omega arith) refl (h .1) (f .bar0)
-    ; bar1 = word-only s p 0x14 4 at new (p .bar1) (omega arith) refl (h .2) (f .bar1)
-    ; privileged = single-only s p 0x43 at new (p .privileged) (h .3) (f .privileged)
-    ; message = single-only s p 0x63 at new (p .message) (h .4) (f .message)
-    ; interrupt = f .interrupt }
+    record {
+      command = word-only s p 0x04 2 at new (p .command) (omega arith) (command-mask s) (h .0) (f .command);
+      bar0 = word-only s p 0x10 4 at new (p .bar0) (omega arith) refl (h .1) (f .bar0);
+      bar1 = word-only s p 0x14 4 at new (p .bar1) (omega arith) refl (h .2) (f .bar1);
+      privileged = single-only s p 0x43 at new (p .privileged) (h .3) (f .privileged);
+      message = single-only s p 0x63 at new (p .message) (h .4) (f .message);
+      interrupt = f .interrupt;
+    }
 
 -- a write of any width: the registers stay fixed, and the connection is no part of them
 pub written-fixed : (s : Settings) (p : Peer) (at w x : ℕ) → Fixed s p → Fixed s (configurationWritten s p at w x)

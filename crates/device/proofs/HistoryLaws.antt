@@ -79,10 +79,11 @@ stored-sound s who slot Register.interruptControl x h c e =
 stored-sound s who slot Register.doorbell x h c e = (e, λ later f. f)
 stored-sound s who slot Register.state x h c e =
     let u = used s who slot h c e in
-    let f = u .fixed in
-    (peer-sound s who slot (withState (slot .peer) (stateValue x)) h c u
-    (record { command = f .command; bar0 = f .bar0; bar1 = f .bar1; privileged = f .privileged; message = f .message; interrupt = f .interrupt })
-    , λ later f. f)
+    let f = u .fixed in (
+      peer-sound s who slot (withState (slot .peer) (stateValue x)) h c u
+          (record { command = f .command; bar0 = f .bar0; bar1 = f .bar1; privileged = f .privileged; message = f .message; interrupt = f .interrupt }),
+      λ later f. f,
+    )
 stored-sound s who slot Register.none x h c e = e
 
 effect-sound : (s : Settings) (who : ℕ) (slot : Slot) (region : List ℕ) (a : Act) → who < s .peers
@@ -221,9 +222,10 @@ fit-sound s w a f =
 pub start-fit : (s : Settings) → Fit s (start s)
 unfolding start freshHub
 start-fit s =
-    record
-    { fixed = λ i. record { settings = s; slots = length-replicate maxPeers (resetSlot 0) i; room = length-replicate {A = ℕ} (total s) 0 i }
-    ; slots = λ i h. rw (getD-replicate maxPeers i (resetSlot 0) zeroSlot h) (absent-sound s i) }
+    record {
+      fixed = λ i. record { settings = s; slots = length-replicate maxPeers (resetSlot 0) i; room = length-replicate {A = ℕ} (total s) 0 i };
+      slots = λ i h. rw (getD-replicate maxPeers i (resetSlot 0) zeroSlot h) (absent-sound s i);
+    }
 
 pub start-remembered : (s : Settings) → Remembered [] (start s)
 unfolding start freshHub memoryBit memoryOn resetSlot
@@ -257,13 +259,14 @@ module _ (s : Settings) (w : World) (c : Call) (a : accepted s ≡ true) (f : Fi
   taken-fit : refusal w c ≡ 0 → Fit s (step w c .world)
   unfolding isConnected
   taken-fit e =
-      record
-      { fixed = ap (λ (x : World). frame x) (taken-world w c e) ∙ runAll-frame (c .who) w (effectIn w c .operations) ∙ f .fixed
-      ; slots =
-          slots-keep (Sound s) (delivery-sound s) e (λ i h d. f .slots i h)
-          (subst (λ (x : Settings). Leaves (Sound s (c .who)) (slotAt (w .hub) (c .who)) (effect x (c .who) (slotAt (w .hub) (c .who)) (w .region) (c .act) .operations)) (sym same)
-          (effect-sound s (c .who) (slotAt (w .hub) (c .who)) (w .region) (c .act) (small e) (taken w c e .there)
-          (f .slots (c .who) (taken-small e)))) }
+      record {
+        fixed = ap (λ (x : World). frame x) (taken-world w c e) ∙ runAll-frame (c .who) w (effectIn w c .operations) ∙ f .fixed;
+        slots =
+            slots-keep (Sound s) (delivery-sound s) e (λ i h d. f .slots i h)
+            (subst (λ (x : Settings). Leaves (Sound s (c .who)) (slotAt (w .hub) (c .who)) (effect x (c .who) (slotAt (w .hub) (c .who)) (w .region) (c .act) .operations)) (sym same)
+            (effect-sound s (c .who) (slotAt (w .hub) (c .who)) (w .region) (c .act) (small e) (taken w c e .there)
+            (f .slots (c .who) (taken-small e))));
+      }
 
   pub step-fit : Fit s (step w c .world)
   step-fit = by-equal (refusal w c) 0 taken-fit (λ n. subst (Fit s) (sym (refused-world w c n)) f)

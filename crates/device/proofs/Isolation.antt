@@ -95,7 +95,8 @@ isolation s a b cs ds same =
     ∙ sym (factored s a b ds [] (start s) (start s) (start-fit s) (start-remembered s) (start-fit s) refl) in
     let settings : after (start s) cs .hub .settings ≡ after (start s) ds .hub .settings = ap (λ (x : Sight). x .view .settings) whole in
     let slot : slotAt (after (start s) cs .hub) b ≡ slotAt (after (start s) ds .hub) b = ap (λ (x : Sight). x .view .slot) whole in
-    record
-    { observations = ap (λ (x : Sight). x .heard) whole
-    ; registers = rw (settings, slot)
-    ; region = ap (λ (x : Sight). x .view .region) whole }
+    record {
+      observations = ap (λ (x : Sight). x .heard) whole;
+      registers = rw (settings, slot);
+      region = ap (λ (x : Sight). x .view .region) whole;
+    }

@@ -155,11 +155,12 @@ record Examples : Type 0 where
 examples : Examples
 unfolding bytes number setByte first every below fields fieldByte configurationByte masks maskIn maskAt maskOf withByte writtenByte configurationWritten Configuration.configurationRead announces registerStored effect start observed deliveriesTo answerTo inTable withWord msixWritten lentTo accessOf wrongRegion shortTable missing present wrongWidth misaligned outside forbidden isConnected refusal registerAt memoryOn registerValue Registers.registerRead gateOf opens target deliveryOf afterDelivery ringAt ring ringFrom Ring.ringOthers outputs sections sectionIn sectionOf somewhere mayStore total accepted freshHub maxPeers maxVectors peerFixed peerReset entryFixed entryReset inUse vectorsInUse peerSound entrySound slotSound sound run runAll stepBy step memoryAfter memoryBit sentBy sent items windowFrom window zeroSlot resetSlot
 examples =
-    record
-    { accepts = refl
-    ; rings = refl
-    ; table = ((refl, refl), ((refl, refl), ((refl, refl), ((refl, refl), ((refl, refl), ((refl, refl), tt))))))
-    ; hides = refl }
+    record {
+      accepts = refl;
+      rings = refl;
+      table = ((refl, refl), ((refl, refl), ((refl, refl), ((refl, refl), ((refl, refl), ((refl, refl), tt))))));
+      hides = refl;
+    }
 
 -- Some history delivers an interrupt to peer 0.
 pub delivered : interrupts (observed 0 (start numbers) (ready ++ (bell ∷ []))) ≡ record { target = peerId 0; vector = vector 0; address = 0; payload = 0x40 } ∷ []

@@ -88,11 +88,12 @@ module _ (b : ℕ) where
   put-here : (w w′ : World) (x : Slot) → view b w ≡ view b w′
       → view b (world (withSlot (w .hub) b x) (w .region)) ≡ view b (world (withSlot (w′ .hub) b x) (w′ .region))
   put-here w w′ x e =
-      λ j. record
-      { settings = e j .settings
-      ; count = (length-set (w .hub .slots) b x ∙ ap (λ (y : View). y .count) e ∙ sym (length-set (w′ .hub .slots) b x)) j
-      ; slot = getD-set-alike (w .hub .slots) (w′ .hub .slots) b x zeroSlot (ap (λ (y : View). y .count) e) (ap (λ (y : View). y .slot) e) j
-      ; region = e j .region }
+      λ j. record {
+        settings = e j .settings;
+        count = (length-set (w .hub .slots) b x ∙ ap (λ (y : View). y .count) e ∙ sym (length-set (w′ .hub .slots) b x)) j;
+        slot = getD-set-alike (w .hub .slots) (w′ .hub .slots) b x zeroSlot (ap (λ (y : View). y .count) e) (ap (λ (y : View). y .slot) e) j;
+        region = e j .region;
+      }
 
   -- a ring at another id, and one at the peer's own
   ring-elsewhere : (w : World) (t : PeerId) (v : Vector) → (t .0 ≡ b → ⊥) → sight b (ranRings (w .region) (ring (w .hub) t v)) ≡ sight b (ran w [])

@@ -50,11 +50,12 @@ used-test s i slot e = rw e
 pub used : (s : Settings) (i : ℕ) (slot : Slot) → i < s .peers → slot .peer .connected ≡ 1 → slotSound s i slot ≡ true → Used s slot
 used s i slot h c e =
     let both = sym (used-test s i slot (in-use s i (slot .peer) h c)) ∙ e in
-    record
-    { fixed = fixed-facts s (slot .peer) (and-left (peerFixed s (slot .peer)) (entriesSound (s .vectors) slot) both)
-    ; entries =
-        below-true maxVectors (λ v. entrySound (s .vectors) v (entryAt slot v))
-        (and-right (peerFixed s (slot .peer)) (entriesSound (s .vectors) slot) both) }
+    record {
+      fixed = fixed-facts s (slot .peer) (and-left (peerFixed s (slot .peer)) (entriesSound (s .vectors) slot) both);
+      entries =
+          below-true maxVectors (λ v. entrySound (s .vectors) v (entryAt slot v))
+          (and-right (peerFixed s (slot .peer)) (entriesSound (s .vectors) slot) both);
+    }
 
 pub used-sound : (s : Settings) (i : ℕ) (slot : Slot) → i < s .peers → slot .peer .connected ≡ 1 → Used s slot → slotSound s i slot ≡ true
 used-sound s i slot h c u =
@@ -135,9 +136,10 @@ masked m x y false e = e
 word-fixed : (e : Entry) (k x : ℕ) → entryFixed e ≡ true → entryFixed (withWord e k x) ≡ true
 unfolding entryFixed withWord every
 word-fixed e k x f =
-    rw
-    (masked addressMask x (e .low) (eqb k 0) (every-true (only addressMask (e .low) ∷ only controlMask (e .control) ∷ []) f 0)
-    , masked controlMask x (e .control) (eqb k 3) (every-true (only addressMask (e .low) ∷ only controlMask (e .control) ∷ []) f 1))
+    rw (
+      masked addressMask x (e .low) (eqb k 0) (every-true (only addressMask (e .low) ∷ only controlMask (e .control) ∷ []) f 0),
+      masked controlMask x (e .control) (eqb k 3) (every-true (only addressMask (e .low) ∷ only controlMask (e .control) ∷ []) f 1),
+    )
 
 -- an entry in use, and that it is sound
 entry-used : (n v : ℕ) (e : Entry) → v < n → entrySound n v e ≡ entryFixed e

@@ -121,11 +121,13 @@ module _ (s : Settings) (who : ℕ) (slot : Slot) (region : List ℕ) (a : Accep
   unfolding announces total
   announced new =
       let n : length (bytes 4 (new .peer .state)) ≡ 4 = length-bytes 4 (new .peer .state) in
-      record
-      { others = λ i j d l h. sets-other region (bytes 4 (new .peer .state)) (4 * who) (4 * i + j) (λ m k e. omega arith)
-      ; own =
-          (λ l j h. sets-here region (bytes 4 (new .peer .state)) (4 * who) j (omega (arith, a .state)) (omega arith) ∙ getD-bytes 4 (new .peer .state) j h
-          , λ later h. h) }
+      record {
+        others = λ i j d l h. sets-other region (bytes 4 (new .peer .state)) (4 * who) (4 * i + j) (λ m k e. omega arith);
+        own = (
+          λ l j h. sets-here region (bytes 4 (new .peer .state)) (4 * who) j (omega (arith, a .state)) (omega arith) ∙ getD-bytes 4 (new .peer .state) j h,
+          λ later h. h,
+        );
+      }
 
   stored-words : (r : Register) (x : ℕ) → Worded s region who slot → Words s who slot region (registerStored who slot r x)
   unfolding registerStored
