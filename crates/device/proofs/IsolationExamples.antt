@@ -36,18 +36,20 @@ use Rattle.device.proofs.Isolation.{isolation}
 abbrev pub numbers : Settings
 numbers = record { peers = 2; vectors = 1; table = 4096; common = 4096; output = 0; base = 0; protocol = 0; vendor = 0; subsystem = 0 }
 
--- both connected, both with Command bits 1 and 2 on; peer 0 takes interrupts, with data 40h
+-- both are connected, and peer 1 has Command bit 1 on
+abbrev pub joined : List Call
+joined = call 0 connect ∷ call 1 connect ∷ call 1 (configurationWrite 0x04 2 0x0002) ∷ []
+
+-- then peer 0 takes interrupts, with data 40h
 abbrev pub ready : List Call
 ready =
-    call 0 connect
-    ∷ call 1 connect
-    ∷ call 0 (configurationWrite 0x04 2 0x0006)
-    ∷ call 1 (configurationWrite 0x04 2 0x0006)
+    joined
+    ++ (call 0 (configurationWrite 0x04 2 0x0006)
     ∷ call 0 (configurationWrite 0x63 1 0x80)
     ∷ call 0 (msixWrite 0x08 4 0x40)
     ∷ call 0 (msixWrite 0x0C 4 0)
     ∷ call 0 (registerWrite 2 0x08 4 1)
-    ∷ []
+    ∷ [])
 
 -- peer 1 rings vector 0 at peer 0, stores State 5, stores a byte of the common section
 abbrev pub bell : Call
@@ -103,19 +105,30 @@ pub record Pair : Type 0 where
 abbrev pair : List Call → List Call → Pair
 pair with without = record { with = with; without = without }
 
+-- (a) a call of peer 0 itself
+abbrev pub calls : Pair
+calls = pair (joined ++ (call 0 (registerRead 0x04 4) ∷ [])) joined
+
+-- (b) a Doorbell store
+abbrev pub bells : Pair
+bells = pair (ready ++ (bell ∷ [])) ready
+
+-- (c) a State store, a reset and a disconnect
+abbrev pub stateStores : Pair
+stateStores = pair (joined ++ (stores ∷ looks)) (joined ++ looks)
+
+abbrev pub resets : Pair
+resets = pair (joined ++ (stores ∷ call 1 (reset 2) ∷ looks)) (joined ++ (stores ∷ looks))
+
+abbrev pub disconnects : Pair
+disconnects = pair (joined ++ (stores ∷ call 1 (disconnect 2) ∷ looks)) (joined ++ (stores ∷ looks))
+
+-- (d) a shared store
+abbrev pub sharedStores : Pair
+sharedStores = pair (joined ++ (shares ∷ looks)) (joined ++ looks)
+
 abbrev pub pairs : List Pair
-pairs =
-    -- (a) a call of peer 0 itself
-    pair (ready ++ (call 0 (registerRead 0x04 4) ∷ [])) ready
-    -- (b) a Doorbell store
-    ∷ pair (ready ++ (bell ∷ [])) ready
-    -- (c) a State store, a reset and a disconnect
-    ∷ pair (ready ++ (stores ∷ looks)) (ready ++ looks)
-    ∷ pair (ready ++ (stores ∷ call 1 (reset 2) ∷ looks)) (ready ++ (stores ∷ looks))
-    ∷ pair (ready ++ (stores ∷ call 1 (disconnect 2) ∷ looks)) (ready ++ (stores ∷ looks))
-    -- (d) a shared store
-    ∷ pair (ready ++ (shares ∷ looks)) (ready ++ looks)
-    ∷ []
+pairs = calls ∷ bells ∷ stateStores ∷ resets ∷ disconnects ∷ sharedStores ∷ []
 
 abbrev pub Each : (Pair → Type 0) → List Pair → Type 0
 Each P [] = Unit {0}
@@ -145,26 +158,47 @@ interrupts [] = []
 interrupts (Observation.answered n v a l ∷ os) = interrupts os
 interrupts (Observation.interrupted d ∷ os) = d ∷ interrupts os
 
-record Examples : Type 0 where
-  accepts : accepted numbers ≡ true
-  rings : interrupts (observed 0 (start numbers) (ready ++ (bell ∷ []))) ≡ record { target = peerId 0; vector = vector 0; address = 0; payload = 0x40 } ∷ []
-  table : Each Coded pairs
-  hides : window 0 numbers (ready ++ (hidden ++ looks)) ≡ window 0 numbers (ready ++ looks)
-
--- each by computation
-examples : Examples
+-- all that the examples compute with
+computing : Unit {0}
 unfolding bytes number setByte first every below fields fieldByte configurationByte masks maskIn maskAt maskOf withByte writtenByte configurationWritten Configuration.configurationRead announces registerStored effect start observed deliveriesTo answerTo inTable withWord msixWritten lentTo accessOf wrongRegion shortTable missing present wrongWidth misaligned outside forbidden isConnected refusal registerAt memoryOn registerValue Registers.registerRead gateOf opens target deliveryOf afterDelivery ringAt ring ringFrom Ring.ringOthers outputs sections sectionIn sectionOf somewhere mayStore total accepted freshHub maxPeers maxVectors peerFixed peerReset entryFixed entryReset inUse vectorsInUse peerSound entrySound slotSound sound run runAll stepBy step memoryAfter memoryBit sentBy sent items windowFrom window zeroSlot resetSlot
-examples =
-    record {
-      accepts = refl;
-      rings = refl;
-      table = ((refl, refl), ((refl, refl), ((refl, refl), ((refl, refl), ((refl, refl), ((refl, refl), tt))))));
-      hides = refl;
-    }
+computing = tt
+
+calls-coded : Coded calls
+unfolding computing
+calls-coded = (refl, refl)
+
+bells-coded : Coded bells
+unfolding computing
+bells-coded = (refl, refl)
+
+stores-coded : Coded stateStores
+unfolding computing
+stores-coded = (refl, refl)
+
+resets-coded : Coded resets
+unfolding computing
+resets-coded = (refl, refl)
+
+disconnects-coded : Coded disconnects
+unfolding computing
+disconnects-coded = (refl, refl)
+
+shared-coded : Coded sharedStores
+unfolding computing
+shared-coded = (refl, refl)
+
+accepts : accepted numbers ≡ true
+unfolding computing
+accepts = refl
+
+hides : window 0 numbers (joined ++ (hidden ++ looks)) ≡ window 0 numbers (joined ++ looks)
+unfolding computing
+hides = refl
 
 -- Some history delivers an interrupt to peer 0.
 pub delivered : interrupts (observed 0 (start numbers) (ready ++ (bell ∷ []))) ≡ record { target = peerId 0; vector = vector 0; address = 0; payload = 0x40 } ∷ []
-delivered = examples .rings
+unfolding computing
+delivered = refl
 
 -- Each kind of item is needed: the windows differ, and the histories are not alike.
 abbrev pub Matters : Pair → Type 0
@@ -175,8 +209,8 @@ matters [] c = tt
 matters (p ∷ ps) c = ((apart itemCode _ _ (c .0 .0), λ same. apart observationCode _ _ (c .0 .1) (same .observations)), matters ps (c .1))
 
 pub every-item-matters : Each Matters pairs
-every-item-matters = matters pairs (examples .table)
+every-item-matters = matters pairs (calls-coded, (bells-coded, (stores-coded, (resets-coded, (disconnects-coded, (shared-coded, tt))))))
 
 -- Calls that are no item change nothing for peer 0.
-pub others-hidden : Alike 0 numbers (ready ++ (hidden ++ looks)) (ready ++ looks)
-others-hidden = isolation numbers (examples .accepts) 0 _ _ (examples .hides)
+pub others-hidden : Alike 0 numbers (joined ++ (hidden ++ looks)) (joined ++ looks)
+others-hidden = isolation numbers accepts 0 _ _ hides
