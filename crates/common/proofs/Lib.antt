@@ -1,3 +1,4 @@
 pub mod ByteLaws
 pub mod ListLaws
+pub mod MaskLaws
 pub mod TestLaws

@@ -4,8 +4,8 @@ use mathlib.Core.Bool.{Bool, true, false, cond, _&&_}
 use mathlib.Core.Path.{_≡_, refl, sym, ap, subst, _∙_}
 use mathlib.Core.List.{List, [], _∷_, _++_}
 use native.Mathlib.Omega.{arith}
-use lib.Dec.{leb, ltb}
-use borrow.Author.Tests.{leb-true, ltb-true}
+use lib.Dec.{eqb, leb, ltb}
+use borrow.Author.Tests.{leb-true, ltb-true, eqb-true, eqb-false}
 use lib.ListN.{length, getD}
 use Rattle.common.specs.Tests.{Row, row, first, everyAfter, every, below}
 
@@ -103,3 +103,28 @@ first-parts (x ∷ xs) ys p e =
     let s = split-row x (first (xs ++ ys)) (and-left (ltb 0 (x .number)) (positive xs) p) e in
     let t = first-parts xs ys (and-right (ltb 0 (x .number)) (positive xs) p) (s .1) in
     (rw (s .0) (t .0), t .1)
+-- two ways to go on, by whether two numbers are equal
+pub by-equal : {P : Type 0} (a b : ℕ) → (a ≡ b → P) → ((a ≡ b → ⊥) → P) → P
+by-equal {P} a b same other = go (eqb a b) refl
+  where
+    go : (t : Bool) → eqb a b ≡ t → P
+    go true e = same (eqb-true a b e)
+    go false e = other (eqb-false a b e)
+
+-- A test at every number below n, and at each of them.
+pub below-true : (n : ℕ) (t : ℕ → Bool) → below n t ≡ true → (i : ℕ) → i < n → t i ≡ true
+unfolding below
+below-true zero t e i h = absurd (omega arith)
+below-true (suc n) t e i h =
+    by-equal i n (λ (q : i ≡ n). rw q (and-right (below n t) (t n) e)) (λ d. below-true n t (and-left (below n t) (t n) e) i (omega arith))
+
+pub true-below : (n : ℕ) (t : ℕ → Bool) → ((i : ℕ) → i < n → t i ≡ true) → below n t ≡ true
+unfolding below
+true-below zero t f = refl
+true-below (suc n) t f = rw (true-below n t (λ i h. f i (omega arith)), f n (omega arith))
+
+-- where no row of a table is given, its first test fails and no row of the rest is given
+pub first-zero : (n : ℕ) (b : Bool) (rows : List Row) → first (row (suc n) b ∷ rows) ≡ 0 → (b ≡ false) × (first rows ≡ 0)
+unfolding first
+first-zero n true rows e = absurd (omega arith)
+first-zero n false rows e = (refl, e)

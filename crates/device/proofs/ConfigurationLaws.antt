@@ -65,7 +65,7 @@ split {P} a b yes′ no′ = go (eqb a b) refl
     go true e = yes′ (eqb-true a b e)
     go false e = no′ e
 
-in-range : (start size o : ℕ) → within start size o ≡ true → (start ≤ o) × (o < start + size)
+pub in-range : (start size o : ℕ) → within start size o ≡ true → (start ≤ o) × (o < start + size)
 in-range start size o e =
     (leb-true start o (and-left (leb start o) (ltb o (start + size)) e), ltb-true o (start + size) (and-right (leb start o) (ltb o (start + size)) e))
 
@@ -126,7 +126,7 @@ byte-other s p q o (n04, (n05, (n10, (n11, (n12, (n13, (n14, (n15, (n16, (n17, (
     let message : within 0x63 1 o ≡ false = within-false 0x63 1 o (λ l h. omega (arith, eqb-false o 0x63 n63)) in
     rw (command, bar0, bar1, privileged, message)
 
-mask-small : (s : Settings) (o : ℕ) → maskAt s o < 256
+pub mask-small : (s : Settings) (o : ℕ) → maskAt s o < 256
 unfolding maskAt masks maskIn
 mask-small s o = by-offset (λ k. maskAt s k < 256) kept (omega arith) o (λ n. rw (mask-other s o n) (omega arith))
 

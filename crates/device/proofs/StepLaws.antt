@@ -66,7 +66,7 @@ givesValue (question at n) = false
 givesValue (load at n) = false
 givesValue (store at bs) = false
 
-never : {P : Type 0} → false ≡ true → P
+pub never : {P : Type 0} → false ≡ true → P
 never {P} e = let z : _≡_ {A = ℕ} 0 1 = cc in absurd (omega arith)
 
 -- the effect of a call that only reads asks for no operation, and that of one that gives no value has value 0

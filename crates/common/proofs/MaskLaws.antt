@@ -1,0 +1,74 @@
+-- Laws of `only` and `merge`: a number under a mask keeps to the mask, byte by byte too, and so does a byte that a write merges.
+use Prim.Native.Nat.{ℕ, zero, suc, _+_, _-_, _*_, _/_, _%_, _^_, _<_, min}
+use mathlib.Core.Bool.{true}
+use mathlib.Core.Path.{_≡_, sym, ap, _∙_}
+use native.Mathlib.Omega.{arith}
+use borrow.Author.Tests.{eqb-true, eq-eqb}
+use lib.Arith.{bin-ind}
+use lib.Bits.{bitAnd, and-step, or-step, and-zero-l, and-zero-r, or-zero-l, and-block, and-le-r}
+use lib.Dec.{eqb}
+use Rattle.common.specs.Bytes.{bit, only, merge}
+
+-- a number under a mask, once more under it
+and-again : (a m : ℕ) → bitAnd (bitAnd a m) m ≡ bitAnd a m
+and-again a = bin-ind (λ n. (m : ℕ) → bitAnd (bitAnd n m) m ≡ bitAnd n m) nothing more a
+  where
+    nothing : (m : ℕ) → bitAnd (bitAnd 0 m) m ≡ bitAnd 0 m
+    nothing m = rw (and-zero-l m) (and-zero-l m)
+
+    more : (n : ℕ) → ((m : ℕ) → bitAnd (bitAnd (n / 2) m) m ≡ bitAnd (n / 2) m) → (m : ℕ) → bitAnd (bitAnd n m) m ≡ bitAnd n m
+    more n ih m =
+        let half : bitAnd n m / 2 ≡ bitAnd (n / 2) (m / 2) = omega (arith, and-step n m) in
+        let odd : bitAnd n m % 2 ≡ min (n % 2) (m % 2) = omega (arith, and-step n m) in
+        and-step (bitAnd n m) m ∙ rw (half, odd, ih (m / 2)) (omega (arith, and-step n m))
+
+pub only-and : (m x : ℕ) → only m (bitAnd x m) ≡ true
+only-and m x = eq-eqb _ _ (and-again x m)
+
+digit-apart : (a c : ℕ) → a < 2 → c < 2 → min a c ≡ a → 0 * 2 + min a (1 - c) ≡ 0
+digit-apart a c ha hc e = omega arith
+
+-- a number that keeps to a mask has no bit of the mask's complement
+apart : (k m x : ℕ) → m < 2 ^ k → bitAnd x m ≡ x → bitAnd x (2 ^ k - 1 - m) ≡ 0
+apart zero m x h e =
+    let none : 2 ^ 0 - 1 - m ≡ 0 = omega arith in
+    rw none (and-zero-r x)
+apart (suc k) m x h e =
+    let half : (2 ^ suc k - 1 - m) / 2 ≡ 2 ^ k - 1 - m / 2 = omega arith in
+    let odd : (2 ^ suc k - 1 - m) % 2 ≡ 1 - m % 2 = omega arith in
+    let here : bitAnd (x / 2) (m / 2) ≡ x / 2 = omega (arith, and-step x m) in
+    let low : min (x % 2) (m % 2) ≡ x % 2 = omega (arith, and-step x m) in
+    and-step x (2 ^ suc k - 1 - m) ∙ rw (half, odd, apart k (m / 2) (x / 2) (omega arith) here) (digit-apart (x % 2) (m % 2) (omega arith) (omega arith) low)
+
+-- a byte that keeps to its mask still does after a write
+pub only-merge : (m old new : ℕ) → m < 256 → only m old ≡ true → only m (merge m old new) ≡ true
+only-merge m old new h e = rw (apart 8 m old h (eqb-true _ _ e), or-zero-l (bitAnd new m)) (only-and m new)
+
+-- a mask of several bytes, from its lowest byte
+only-first : (m r x : ℕ) → m < 256 → bitAnd x (m + 256 * r) ≡ bitAnd (x / 256) r * 256 + bitAnd (x % 256) m
+only-first m r x h =
+    let a : x ≡ x / 256 * 2 ^ 8 + x % 256 = omega arith in
+    let b : m + 256 * r ≡ r * 2 ^ 8 + m = omega arith in
+    ap (λ (y : ℕ). bitAnd x y) b ∙ ap (λ (y : ℕ). bitAnd y (r * 2 ^ 8 + m)) a ∙ and-block 8 (x / 256) r (x % 256) m (omega arith) h
+
+pub only-split : (m r x : ℕ) → m < 256 → only (m + 256 * r) x ≡ true → (only m (x % 256) ≡ true) × (only r (x / 256) ≡ true)
+only-split m r x h e =
+    let f : bitAnd (x / 256) r * 256 + bitAnd (x % 256) m ≡ x = sym (only-first m r x h) ∙ eqb-true _ _ e in
+    let low : bitAnd (x % 256) m ≡ x % 256 = omega (arith, and-le-r (x % 256) m) in
+    let high : bitAnd (x / 256) r ≡ x / 256 = omega (arith, and-le-r (x % 256) m) in
+    (eq-eqb _ _ low, eq-eqb _ _ high)
+
+pub only-join : (m r b x : ℕ) → m < 256 → b < 256 → only m b ≡ true → only r x ≡ true → only (m + 256 * r) (b + 256 * x) ≡ true
+only-join m r b x hm hb e f =
+    let low : (b + 256 * x) % 256 ≡ b = omega arith in
+    let high : (b + 256 * x) / 256 ≡ x = omega arith in
+    eq-eqb _ _ (only-first m r (b + 256 * x) hm ∙ rw (low, high, eqb-true (bitAnd b m) b e, eqb-true (bitAnd x r) x f) (omega arith))
+
+-- bit 1 of a byte that a write merges under a mask with that bit is the written byte's
+pub bit-merge : (m old new : ℕ) → m / 2 % 2 ≡ 1 → (255 - m) / 2 % 2 ≡ 0 → bit 1 (merge m old new) ≡ bit 1 new
+bit-merge m old new h k =
+    let a : bitAnd old (255 - m) / 2 % 2 ≡ 0 = omega (arith, and-step old (255 - m), and-step (old / 2) ((255 - m) / 2)) in
+    let b : bitAnd new m / 2 % 2 ≡ new / 2 % 2 = omega (arith, and-step new m, and-step (new / 2) (m / 2)) in
+    let c : merge m old new / 2 % 2 ≡ new / 2 % 2 =
+    omega (arith, or-step (bitAnd old (255 - m)) (bitAnd new m), or-step (bitAnd old (255 - m) / 2) (bitAnd new m / 2)) in
+    ap (λ (x : ℕ). eqb x 1) c
