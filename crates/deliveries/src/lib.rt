@@ -50,6 +50,19 @@ pub fn ring_one(hub: &mut [u32], t: PeerId, v: Vector) -> Deliveries
     }
 }
 
+// One turn of the rings at every other id: nobody rings itself.
+fn ring_other(hub: &mut [u32], i: u64, who: u64) -> RingOutcome
+    requires usable { ⌜ Usable (now hub) ⌝ }
+    requires known { ⌜ i < hubOf (now hub) .settings .peers ⌝ }
+    ensures hub { λ r. ⌜ hubOf (now (hub .exit)) ≡ Ring.ringBut who (hubOf (now (hub .entry))) i .hub ⌝ }
+    ensures deliveries { λ r. ⌜ outcomeList r ≡ Ring.ringBut who (hubOf (now (hub .entry))) i .deliveries ⌝ }
+{
+    if i == who {
+        return RingOutcome::Lost;
+    }
+    gate::ring(hub, PeerId(i as u32), Vector(0))
+}
+
 // Vector 0 rung at every other id, ascending.
 pub fn ring_others(hub: &mut [u32], who: u64) -> Deliveries
     requires { ⌜ Usable (now hub) ⌝ }
@@ -60,12 +73,10 @@ pub fn ring_others(hub: &mut [u32], who: u64) -> Deliveries
     let mut list = none();
     let mut i: u64 = 0;
     while i < peers {
-        if i != who {
-            if let RingOutcome::Delivered(d) = gate::ring(hub, PeerId(i as u32), Vector(0)) {
-                let at = list.count;
-                list.records[at] = d;
-                list.count = at + 1;
-            }
+        if let RingOutcome::Delivered(d) = ring_other(hub, i, who) {
+            let at = list.count;
+            list.records[at] = d;
+            list.count = at + 1;
         }
         i += 1;
     }

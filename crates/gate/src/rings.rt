@@ -50,9 +50,11 @@ pub fn ring(hub: &mut [u32], t: PeerId, v: Vector) -> RingOutcome
         return RingOutcome::Lost;
     }
     let e = words::entry(hub, t.0 as usize, v.0 as usize);
+    let d = super::delivery_of(t, v, e);
     if gate.oneshot {
         let p = words::peer(hub, t.0 as usize);
         words::put_peer(hub, t.0 as usize, disarmed(p));
+        return RingOutcome::Delivered(d);
     }
-    RingOutcome::Delivered(super::delivery_of(t, v, e))
+    RingOutcome::Delivered(d)
 }

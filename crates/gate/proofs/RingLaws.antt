@@ -1,0 +1,98 @@
+-- Laws of specs/RingOutcome.antt and of the rings of the device: what a target tells, what one ring leaves, and that rings keep the
+-- settings and deliver at most one interrupt each.
+use Prim.Native.Nat.{ℕ, zero, suc, _+_, _≤_, _<_}
+use mathlib.Core.Bool.{Bool, true, false, cond}
+use mathlib.Core.List.{List, [], _∷_, _++_}
+use mathlib.Core.Path.{_≡_, refl, sym, ap, _∙_}
+use native.Mathlib.Omega.{arith}
+use borrow.Author.Tests.{ltb-true, lt-ltb, eq-eqb}
+use lib.Dec.{eqb, ltb}
+use lib.ListN.{length, getD, length-append}
+use Rattle.common.proofs.TestLaws.{every-false, every-true}
+use Rattle.common.specs.Tests.{every}
+use Rattle.device.proofs.SetUpLaws.{accepted-facts}
+use Rattle.device.specs.declared.Delivery.{Delivery}
+use Rattle.device.specs.declared.Gate.{Gate}
+use Rattle.device.specs.declared.PeerId.{PeerId}
+use Rattle.device.specs.declared.Settings.{Settings}
+use Rattle.device.specs.declared.Target.{Target}
+use Rattle.device.specs.declared.Target.the-variants.{Live, Nobody}
+use Rattle.device.specs.declared.Vector.{Vector}
+use Rattle.device.specs.Ring.{Rung, rung, gateOf, opens, target, deliveryOf, withInterrupt, afterDelivery, ringAt, ring, ringFrom, peerId, vector}
+use Rattle.device.specs.SetUp.{accepted}
+use Rattle.device.specs.Sizes.{maxPeers, maxVectors}
+use Rattle.device.specs.World.{Hub, slotAt, entryAt, withSlot, withPeer}
+use Rattle.words.proofs.SlotLaws.{slot-kept}
+use Rattle.words.specs.Layout.{hubOf}
+use Rattle.gate.specs.RingOutcome.{Usable}
+
+-- ids and vectors of a usable hub are those of its words
+pub peer-below : (ws : List ℕ) (i : ℕ) → Usable ws → i < hubOf ws .settings .peers → i < maxPeers
+peer-below ws i u l = omega (arith, accepted-facts _ (u .numbers) .peers)
+
+pub vector-below : (ws : List ℕ) (v : ℕ) → Usable ws → v < hubOf ws .settings .vectors → v < maxVectors
+vector-below ws v u l = omega (arith, accepted-facts _ (u .numbers) .vectors)
+
+pub usable-kept : (before after : List ℕ) → Usable before → length after ≡ length before → hubOf after .settings ≡ hubOf before .settings → Usable after
+usable-kept before after u size same =
+    record { room = size ∙ u .room; numbers = ap (λ (s : Settings). accepted s) same ∙ u .numbers }
+
+-- the tests that a target passes
+abbrev tests : Hub → PeerId → Vector → List Bool
+tests hub t v =
+    ltb (t .0) (hub .settings .peers)
+    ∷ eqb (slotAt hub (t .0) .peer .connected) 1
+    ∷ ltb (v .0) (hub .settings .vectors)
+    ∷ []
+
+module _ (hub : Hub) (t : PeerId) (v : Vector) where
+  pub nobody : (k : ℕ) → getD (tests hub t v) k true ≡ false → Nobody ≡ target hub t v
+  unfolding target
+  nobody k e = rw (every-false (tests hub t v) k e)
+
+  pub live : t .0 < hub .settings .peers → slotAt hub (t .0) .peer .connected ≡ 1 → v .0 < hub .settings .vectors
+      → Live (gateOf (slotAt hub (t .0) .peer) (entryAt (slotAt hub (t .0)) (v .0))) ≡ target hub t v
+  unfolding target every
+  live known connected few = rw (lt-ltb _ _ known, eq-eqb _ _ connected, lt-ltb _ _ few)
+
+  -- what a ring that finds a gate knows
+  pub found : (gate : Gate) → Live gate ≡ target hub t v → (t .0 < hub .settings .peers) × (v .0 < hub .settings .vectors)
+  unfolding target
+  found gate e = by (every (tests hub t v)) refl
+    where
+      by : (b : Bool) → every (tests hub t v) ≡ b → (t .0 < hub .settings .peers) × (v .0 < hub .settings .vectors)
+      by true f = (ltb-true _ _ (every-true (tests hub t v) f 0), ltb-true _ _ (every-true (tests hub t v) f 2))
+      by false f = let z : _≡_ {A = ℕ} 0 1 = cc in absurd (omega arith)
+
+  -- the four ways of a ring
+  pub unanswered : Nobody ≡ target hub t v → rung hub [] ≡ ring hub t v
+  unfolding ring ringAt
+  unanswered e = rw (← e)
+
+  module _ (gate : Gate) (at : Live gate ≡ target hub t v) where
+    pub closed : opens gate ≡ false → rung hub [] ≡ ring hub t v
+    unfolding ring ringAt
+    closed o = rw (← at, o)
+
+    module _ (o : opens gate ≡ true) where
+      pub spent : gate .oneshot ≡ true
+          → rung (withSlot hub (t .0) (withPeer (slotAt hub (t .0)) (withInterrupt (slotAt hub (t .0) .peer) 0))) (deliveryOf t v (entryAt (slotAt hub (t .0)) (v .0)) ∷ []) ≡ ring hub t v
+      unfolding ring ringAt afterDelivery
+      spent s = rw (← at, o, s)
+
+      pub armed : gate .oneshot ≡ false → rung hub (deliveryOf t v (entryAt (slotAt hub (t .0)) (v .0)) ∷ []) ≡ ring hub t v
+      unfolding ring ringAt afterDelivery
+      armed s = rw (← at, o, s) (ap (λ (h : Hub). rung h (deliveryOf t v (entryAt (slotAt hub (t .0)) (v .0)) ∷ [])) (slot-kept hub (t .0)))
+
+  -- the settings stay, and there is at most one delivery
+  pub ring-kept : (ring hub t v .hub .settings ≡ hub .settings) × (length (ring hub t v .deliveries) ≤ 1)
+  unfolding ring
+  ring-kept = at (target hub t v)
+    where
+      rest : (b : Bool) (h : Hub) (d : Delivery) → h .settings ≡ hub .settings
+          → (cond b (rung h (d ∷ [])) (rung hub []) .hub .settings ≡ hub .settings) × (length (cond b (rung h (d ∷ [])) (rung hub []) .deliveries) ≤ 1)
+      rest true h d e = (e, omega arith)
+      rest false h d e = (refl, omega arith)
+      at : (g : Target) → (ringAt hub t v g .hub .settings ≡ hub .settings) × (length (ringAt hub t v g .deliveries) ≤ 1)
+      at Nobody = ?
+      at (Live gate) = ?
