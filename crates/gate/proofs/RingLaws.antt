@@ -37,6 +37,10 @@ pub usable-kept : (before after : List ℕ) → Usable before → length after �
 usable-kept before after u size same =
     record { room = size ∙ u .room; numbers = ap (λ (s : Settings). accepted s) same ∙ u .numbers }
 
+-- a ring's two parts
+pub apart : (hub : Hub) (ds : List Delivery) {r : Rung} → rung hub ds ≡ r → (hub ≡ r .hub) × (ds ≡ r .deliveries)
+apart hub ds e = (ap (λ (r : Rung). r .hub) e, ap (λ (r : Rung). r .deliveries) e)
+
 -- the tests that a target passes
 abbrev tests : Hub → PeerId → Vector → List Bool
 tests hub t v =
@@ -84,15 +88,21 @@ module _ (hub : Hub) (t : PeerId) (v : Vector) where
       unfolding ring ringAt afterDelivery
       armed s = rw (← at, o, s) (ap (λ (h : Hub). rung h (deliveryOf t v (entryAt (slotAt hub (t .0)) (v .0)) ∷ [])) (slot-kept hub (t .0)))
 
-  -- the settings stay, and there is at most one delivery
-  pub ring-kept : (ring hub t v .hub .settings ≡ hub .settings) × (length (ring hub t v .deliveries) ≤ 1)
+-- rings keep the settings, and deliver at most so many interrupts
+pub record Kept (hub : Hub) (n : ℕ) (r : Rung) : Type 0 where
+  pub settings : r .hub .settings ≡ hub .settings
+  pub few : length (r .deliveries) ≤ n
+
+module _ (hub : Hub) (t : PeerId) (v : Vector) where
+  either-kept : (b : Bool) (h : Hub) (d : Delivery) → h .settings ≡ hub .settings → Kept hub 1 (cond b (rung h (d ∷ [])) (rung hub []))
+  either-kept true h d e = record { settings = e; few = omega arith }
+  either-kept false h d e = record { settings = refl; few = omega arith }
+
+  at-kept : (target : Target) → Kept hub 1 (ringAt hub t v target)
+  unfolding ringAt
+  at-kept Nobody = record { settings = refl; few = omega arith }
+  at-kept (Live gate) = either-kept (opens gate) _ _ refl
+
+  pub ring-kept : Kept hub 1 (ring hub t v)
   unfolding ring
-  ring-kept = at (target hub t v)
-    where
-      rest : (b : Bool) (h : Hub) (d : Delivery) → h .settings ≡ hub .settings
-          → (cond b (rung h (d ∷ [])) (rung hub []) .hub .settings ≡ hub .settings) × (length (cond b (rung h (d ∷ [])) (rung hub []) .deliveries) ≤ 1)
-      rest true h d e = (e, omega arith)
-      rest false h d e = (refl, omega arith)
-      at : (g : Target) → (ringAt hub t v g .hub .settings ≡ hub .settings) × (length (ringAt hub t v g .deliveries) ≤ 1)
-      at Nobody = ?
-      at (Live gate) = ?
+  ring-kept = at-kept (target hub t v)

@@ -1,99 +1,86 @@
+-- `gate::rings::ring` meets its contract: each of its four ways is one of the definition's.
+use mathlib.Core.Path.{_≡_, sym, ap, _∙_}
 use borrow.Author.Needs.{needs}
+use borrow.Author.Tests.{not-true, not-false}
+use Rattle.gate.specs.RingOutcome.{outcomeList}
+use Rattle.gate.proofs.RingLaws.{peer-below, vector-below, found, apart, unanswered, closed, spent, armed}
 use Rattle.gate.proofs.rings.ring.Statement.{statement}
 use Rattle.gate.proofs.rings.ring.Tie as tie
-use Rattle.gate.proofs.rings.ring.Reads as reads
-use Rattle.gate.proofs.rings.ring.Lts as lts
-use Rattle.gate.proofs.rings.disarmed.Reads as disarmed-reads
-use Rattle.gate.proofs.rings.target.Reads as target-reads
-use Rattle.gate.proofs.switches.delivery_of.Reads as delivery-of-reads
-use Rattle.gate.proofs.switches.opens.Reads as opens-reads
-use Rattle.words.proofs.entry.Reads as entry-reads
-use Rattle.words.proofs.peer.Reads as peer-reads
-use Rattle.words.proofs.put_peer.Reads as put-peer-reads
 
--- src/rings.rt:45:30
 target-requires : tie.Need-target-requires
 target-requires c κs = search needs
 
--- src/rings.rt:45:22
 enum-known-gate : tie.Need-enum-known-gate
 enum-known-gate c = search needs
 
--- src/rings.rt:46:9
 enum-told : tie.Need-enum-told
 enum-told c = search needs
 
--- src/rings.rt:46:9
 same-length : tie.Need-same-length
 same-length c = search needs
 
--- src/rings.rt:46:9
 returns : tie.Need-returns
-returns c = ?
+unfolding outcomeList
+returns c = apart _ _ (unanswered _ _ _ (sym (c .enum-told .given .1) ∙ c .before .before .target .ensures))
 
--- src/rings.rt:48:9
 opens-requires : tie.Need-opens-requires
 opens-requires c κs = search needs
 
--- src/rings.rt:50:9
 same-length-2 : tie.Need-same-length-2
 same-length-2 c = search needs
 
--- src/rings.rt:50:9
 returns-2 : tie.Need-returns-2
-returns-2 c = ?
+unfolding outcomeList
+returns-2 c =
+    apart _ _ (closed _ _ _ _ (sym (c .before .before .before .gate .given .1) ∙ c .before .before .before .before .before .target .ensures) (sym (c .before .opens .ensures) ∙ not-true _ (c .if1 .taken)))
 
--- src/rings.rt:52:31
 cast-entry : tie.Need-cast-entry
 cast-entry c = search needs
 
--- src/rings.rt:52:45
 cast-entry-2 : tie.Need-cast-entry-2
 cast-entry-2 c = search needs
 
--- src/rings.rt:52:9
 entry-requires : tie.Need-entry-requires
-entry-requires c κs = ?
+entry-requires c κs =
+    let f = found _ _ _ _ (sym (c .before .before .before .before .before .before .gate .given .1) ∙ c .before .before .before .before .before .before .before .before .target .ensures) in
+    (c .before .before .before .before .before .before .before .before .before .before .before .pre .room, (peer-below _ _ (c .before .before .before .before .before .before .before .before .before .before .before .pre) (f .0), vector-below _ _ (c .before .before .before .before .before .before .before .before .before .before .before .pre) (f .1)))
 
--- src/rings.rt:53:9
 delivery-of-requires : tie.Need-delivery-of-requires
 delivery-of-requires c κs = search needs
 
--- src/rings.rt:55:34
 cast-peer : tie.Need-cast-peer
 cast-peer c = search needs
 
--- src/rings.rt:55:13
 peer-requires : tie.Need-peer-requires
-peer-requires c κs = ?
+peer-requires c κs =
+    (c .before .before .before .before .before .before .before .before .before .before .before .before .before .before .before .before .pre .room, peer-below _ _ (c .before .before .before .before .before .before .before .before .before .before .before .before .before .before .before .before .pre) (found _ _ _ _ (sym (c .before .before .before .before .before .before .before .before .before .before .before .gate .given .1) ∙ c .before .before .before .before .before .before .before .before .before .before .before .before .before .target .ensures) .0))
 
--- src/rings.rt:56:30
 cast-put-peer : tie.Need-cast-put-peer
 cast-put-peer c = search needs
 
--- src/rings.rt:56:44
 disarmed-requires : tie.Need-disarmed-requires
 disarmed-requires c κs = search needs
 
--- src/rings.rt:56:9
 put-peer-requires : tie.Need-put-peer-requires
-put-peer-requires c κs = ?
+put-peer-requires c κs =
+    (c .before .before .before .before .before .before .before .before .before .before .before .before .before .before .before .before .before .before .before .before .pre .room, peer-below _ _ (c .before .before .before .before .before .before .before .before .before .before .before .before .before .before .before .before .before .before .before .before .pre) (found _ _ _ _ (sym (c .before .before .before .before .before .before .before .before .before .before .before .before .before .before .before .gate .given .1) ∙ c .before .before .before .before .before .before .before .before .before .before .before .before .before .before .before .before .before .target .ensures) .0))
 
--- src/rings.rt:57:9
 same-length-3 : tie.Need-same-length-3
 same-length-3 c = search needs
 
--- src/rings.rt:57:9
 returns-3 : tie.Need-returns-3
-returns-3 c = ?
+unfolding outcomeList
+returns-3 c =
+    let r = apart _ _ (spent _ _ _ _ (sym (c .before .before .before .before .before .before .before .before .before .before .before .before .before .before .before .before .before .before .gate .given .1) ∙ c .before .before .before .before .before .before .before .before .before .before .before .before .before .before .before .before .before .before .before .before .target .ensures) (sym (c .before .before .before .before .before .before .before .before .before .before .before .before .before .before .before .before .opens .ensures) ∙ not-false _ (c .before .before .before .before .before .before .before .before .before .before .before .before .before .before .before .if1 .left)) (c .before .before .before .before .before .before .before .before .before .if2 .taken)) in
+    ((rw (c .before .before .before .disarmed .ensures, c .before .before .before .before .before .before .peer .ensures) at (c .before .before .put-peer .ensures)) ∙ r .0, rw (c .before .before .before .before .before .before .before .before .before .before .delivery-of .ensures, c .before .before .before .before .before .before .before .before .before .before .before .entry .ensures) (r .1))
 
--- src/rings.rt:40:1
 same-length-4 : tie.Need-same-length-4
 same-length-4 c = search needs
 
--- src/rings.rt:40:1
 returns-4 : tie.Need-returns-4
-returns-4 c = ?
+unfolding outcomeList
+returns-4 c =
+    rw (c .before .delivery-of .ensures, c .before .before .entry .ensures) (apart _ _ (armed _ _ _ _ (sym (c .before .before .before .before .before .before .before .before .before .gate .given .1) ∙ c .before .before .before .before .before .before .before .before .before .before .before .target .ensures) (sym (c .before .before .before .before .before .before .before .opens .ensures) ∙ not-false _ (c .before .before .before .before .before .before .if1 .left)) (c .if2 .left)))
 
 pub ring-spec : {M : Type 1} → statement M
 ring-spec =
