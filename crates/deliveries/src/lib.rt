@@ -3,11 +3,12 @@ use device::{Delivery, PeerId, Vector};
 use gate::RingOutcome;
 
 ghost use mathlib.Core.Path.{_≡_};
+ghost use Prim.Native.Nat.{_<_};
 ghost use mathlib.Core.List.{[]};
 ghost use Rattle.device.specs.Ring as Ring;
 ghost use Rattle.words.specs.Layout.{hubOf};
 ghost use Rattle.gate.specs.RingOutcome.{outcomeList, Usable};
-ghost use Rattle.deliveries.specs.Listed.{listed};
+ghost use Rattle.deliveries.specs.Listed.{listed, Empty, ringBut};
 
 // A call rings each id at most once.
 pub struct Deliveries {
@@ -24,13 +25,19 @@ fn nothing() -> Delivery {
     }
 }
 
-pub fn none() -> Deliveries
-    ensures { λ r. ⌜ listed r ≡ [] ⌝ }
+fn empty() -> Deliveries
+    ensures { λ r. ⌜ Empty r ⌝ }
 {
     Deliveries {
         count: 0,
         records: [nothing(); device::MAX_PEERS],
     }
+}
+
+pub fn none() -> Deliveries
+    ensures { λ r. ⌜ listed r ≡ [] ⌝ }
+{
+    empty()
 }
 
 // One ring, and its deliveries: one or none.
@@ -39,7 +46,7 @@ pub fn ring_one(hub: &mut [u32], t: PeerId, v: Vector) -> Deliveries
     ensures hub { λ r. ⌜ hubOf (now (hub .exit)) ≡ Ring.ring (hubOf (now (hub .entry))) t v .hub ⌝ }
     ensures deliveries { λ r. ⌜ listed r ≡ Ring.ring (hubOf (now (hub .entry))) t v .deliveries ⌝ }
 {
-    let mut list = none();
+    let mut list = empty();
     match gate::ring(hub, t, v) {
         RingOutcome::Delivered(d) => {
             list.records[0] = d;
@@ -54,8 +61,8 @@ pub fn ring_one(hub: &mut [u32], t: PeerId, v: Vector) -> Deliveries
 fn ring_other(hub: &mut [u32], i: u64, who: u64) -> RingOutcome
     requires usable { ⌜ Usable (now hub) ⌝ }
     requires known { ⌜ i < hubOf (now hub) .settings .peers ⌝ }
-    ensures hub { λ r. ⌜ hubOf (now (hub .exit)) ≡ Ring.ringBut who (hubOf (now (hub .entry))) i .hub ⌝ }
-    ensures deliveries { λ r. ⌜ outcomeList r ≡ Ring.ringBut who (hubOf (now (hub .entry))) i .deliveries ⌝ }
+    ensures hub { λ r. ⌜ hubOf (now (hub .exit)) ≡ ringBut who (hubOf (now (hub .entry))) i .hub ⌝ }
+    ensures deliveries { λ r. ⌜ outcomeList r ≡ ringBut who (hubOf (now (hub .entry))) i .deliveries ⌝ }
 {
     if i == who {
         return RingOutcome::Lost;
@@ -70,7 +77,7 @@ pub fn ring_others(hub: &mut [u32], who: u64) -> Deliveries
     ensures deliveries { λ r. ⌜ listed r ≡ Ring.ringOthers who (hubOf (now (hub .entry))) .deliveries ⌝ }
 {
     let peers = words::settings(hub).peers;
-    let mut list = none();
+    let mut list = empty();
     let mut i: u64 = 0;
     while i < peers {
         if let RingOutcome::Delivered(d) = ring_other(hub, i, who) {
