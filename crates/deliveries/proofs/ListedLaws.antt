@@ -9,9 +9,9 @@ use lib.Dec.{eqb}
 use lib.ListN.{length, set, length-set, length-append}
 use lib.Seq.{take-suc-set}
 use Rattle.device.specs.declared.Delivery.{Delivery}
-use Rattle.device.specs.Ring.{Rung, rung, rungThen, ring, ringFrom, peerId, vector}
+use Rattle.device.specs.Ring.{Rung, rung, rungThen, ring, ringFrom, ringOthers, peerId, vector}
 use Rattle.device.specs.World.{Hub}
-use Rattle.gate.proofs.RingLaws.{Kept, ring-kept}
+use Rattle.gate.proofs.RingLaws.{apart, Kept, ring-kept}
 use Rattle.gate.specs.declared.RingOutcome.{RingOutcome}
 use Rattle.gate.specs.declared.RingOutcome.the-variants.{Delivered, Lost}
 use Rattle.gate.specs.RingOutcome.{outcomeList}
@@ -56,14 +56,24 @@ unfolding ringFrom ringBut
 from-kept zero i who hub = record { settings = refl; few = omega arith }
 from-kept (suc n) i who hub = then-kept hub n (ringBut who hub i) (λ h. ringFrom n (suc i) who h) (but-kept who hub i) (from-kept n (suc i) who _)
 
--- one turn of those that are left
-module _ (who peers i : ℕ) (more : i < peers) where
-  turn : (hub : Hub) → ringFrom (peers - i) i who hub ≡ rungThen (ringBut who hub i) (λ h. ringFrom (peers - (i + 1)) (i + 1) who h)
-  unfolding ringFrom ringBut
-  turn hub = let e : peers - i ≡ suc (peers - (i + 1)) = omega arith in rw (e, add-one)
+-- what has been listed and what the turns left give, which is all in each turn
+abbrev pub Rest : ℕ → ℕ → ℕ → Hub → Deliveries → Rung → Type 0
+Rest who peers i hub d whole = rungThen (rung hub (listed d)) (λ h. ringFrom (peers - i) i who h) ≡ whole
 
-  pub turned : (hub after : Hub) (ds given : List Delivery) (whole : Rung)
-      → after ≡ ringBut who hub i .hub → given ≡ ringBut who hub i .deliveries
-      → rungThen (rung hub ds) (λ h. ringFrom (peers - i) i who h) ≡ whole
-      → rungThen (rung after (ds ++ given)) (λ h. ringFrom (peers - (i + 1)) (i + 1) who h) ≡ whole
-  turned hub after ds given whole ea eg all = rw (ea, eg, append-assoc) (rw (turn hub) at all)
+module _ (who peers : ℕ) (hub : Hub) (d : Deliveries) where
+  pub rest-first : peers ≡ hub .settings .peers → Empty d → Rest who peers 0 hub d (ringOthers who hub)
+  unfolding ringOthers
+  rest-first same e = let z : peers - 0 ≡ hub .settings .peers = omega arith in rw (empty-listed d e, z)
+
+  pub rest-last : (i : ℕ) (whole : Rung) → peers ≤ i → Rest who peers i hub d whole → (hub ≡ whole .hub) × (listed d ≡ whole .deliveries)
+  unfolding ringFrom
+  rest-last i whole l e = let z : peers - i ≡ 0 = omega arith in apart hub (listed d) (rw (z, append-nil) at e)
+
+  turn : (i : ℕ) → i < peers → ringFrom (peers - i) i who hub ≡ rungThen (ringBut who hub i) (λ h. ringFrom (peers - (i + 1)) (i + 1) who h)
+  unfolding ringFrom ringBut
+  turn i l = let z : peers - i ≡ suc (peers - (i + 1)) = omega arith in rw (z, add-one)
+
+  pub rest-more : (i : ℕ) (o : RingOutcome) (after : Hub) (a : Deliveries) (whole : Rung) → i < peers
+      → after ≡ ringBut who hub i .hub → outcomeList o ≡ ringBut who hub i .deliveries → More d o a
+      → Rest who peers i hub d whole → Rest who peers (i + 1) after a whole
+  rest-more i o after a whole l eh eo m e = rw (m .all, eh, eo, append-assoc) (rw (turn i l) at e)

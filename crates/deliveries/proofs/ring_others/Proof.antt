@@ -1,71 +1,116 @@
+-- `deliveries::ring_others` meets its contract. The loop's invariant: what is listed and what the turns left give is the whole.
+use Prim.Native.Nat.{ℕ, _-_, _≤_, _<_}
+use mathlib.Core.List.{List}
+use mathlib.Core.Logic.{⊎-elim}
+use mathlib.Core.Path.{_≡_, refl, sym, ap, _∙_}
+use native.Mathlib.Omega.{arith}
+use lib.ListN.{length}
+use borrow.Author.Needs.{needs}
+use Rattle.deliveries.specs.declared.Deliveries.{Deliveries}
+use Rattle.device.proofs.SizeLaws.{maxPeers-small}
+use Rattle.device.specs.Ring.{ringOthers}
+use Rattle.device.specs.Sizes.{maxPeers}
+use Rattle.device.specs.World.{Hub}
+use Rattle.device.specs.declared.Settings.{Settings}
+use Rattle.gate.proofs.RingLaws.{peer-below, usable-kept}
+use Rattle.gate.specs.RingOutcome.{Usable}
+use Rattle.words.specs.Layout.{hubOf}
+use Rattle.deliveries.proofs.ListedLaws.{More, more-lost, more-delivered, but-kept, Rest, rest-first, rest-more, rest-last}
 use Rattle.deliveries.proofs.ring_others.Statement.{statement}
 use Rattle.deliveries.proofs.ring_others.Tie as tie
-use Rattle.deliveries.proofs.ring_others.Reads as reads
-use Rattle.deliveries.proofs.ring_others.Lts as lts
-use Rattle.deliveries.proofs.empty.Reads as empty-reads
-use Rattle.deliveries.proofs.ring_other.Reads as ring-other-reads
-use Rattle.words.proofs.settings.Reads as settings-reads
+
+record Inv (hub₀ : List ℕ) (who peers : ℕ) (hub : List ℕ) (list : Deliveries) (i : ℕ) : Type 0 where
+  usable : Usable hub
+  kept : length hub ≡ length hub₀
+  same : peers ≡ hubOf hub .settings .peers
+  bound : i ≤ peers
+  few : list .count ≤ i
+  room : length (list .records) ≡ maxPeers
+  rest : Rest who peers i (hubOf hub) list (ringOthers who (hubOf hub₀))
 
 abbrev Inv-loop : tie.InvT-loop
-Inv-loop hub₀ who peers list₀ i₀ hub list i = ?
+Inv-loop hub₀ who peers list₀ i₀ hub list i = Inv hub₀ who peers hub list i
 
 abbrev μ-loop : tie.MeasureT-loop
-μ-loop hub₀ who peers list₀ i₀ hub list i = ?
+μ-loop hub₀ who peers list₀ i₀ hub list i = peers - i
 
--- src/lib.rt:79:17
+-- in a turn there is room for one delivery more
+count-below : (c : tie.In-loop Inv-loop μ-loop) → c .before .loop .list .count < maxPeers
+count-below c =
+    let l : c .before .loop .i < hubOf (c .before .loop .hub) .settings .peers = omega arith in
+    omega (arith, peer-below (c .before .loop .hub) (c .before .loop .i) (c .before .loop .inv .usable) l)
+
+-- what the turn's ring gave is listed, whichever it was
+more : (c : tie.At-match-came Inv-loop μ-loop) → More (c .before .before .before .before .before .before .loop .list) (c .before .before .before .ring-other .result) (c .match .list)
+more c =
+    ⊎-elim
+    (λ w. ?)
+    (λ w. ?)
+    (c .match .came)
+
 settings-requires : tie.Need-settings-requires Inv-loop μ-loop
-settings-requires c κs = ?
+settings-requires c κs = c .before .before .pre .room
 
--- src/lib.rt:80:20
 empty-requires : tie.Need-empty-requires Inv-loop μ-loop
-empty-requires c κs = ?
+empty-requires c κs = search needs
 
--- src/lib.rt:82:5
 loop-holds : tie.Need-loop-holds Inv-loop μ-loop
-loop-holds c = ?
+loop-holds c =
+    record {
+      usable = c .before .before .before .before .pre;
+      kept = refl;
+      same = ap (λ (s : Settings). s .peers) (c .before .settings .ensures);
+      bound = omega arith;
+      few = omega arith;
+      room = c .empty .ensures .room;
+      rest = rest-first _ _ _ _ (ap (λ (s : Settings). s .peers) (c .before .settings .ensures)) (c .empty .ensures);
+    }
 
--- src/lib.rt:83:44
 ring-other-requires : tie.Need-ring-other-requires Inv-loop μ-loop
-ring-other-requires c κs = ?
+ring-other-requires c κs = (c .before .before .loop .inv .usable, omega arith)
 
--- src/lib.rt:83:39
 enum-known-d : tie.Need-enum-known-d Inv-loop μ-loop
-enum-known-d c = ?
+enum-known-d c = search needs
 
--- src/lib.rt:85:13
 mul-d : tie.Need-mul-d Inv-loop μ-loop
-mul-d c = ?
+mul-d c =
+    omega (arith, maxPeers-small, count-below (c .before .before .before .before .before .before .before))
 
--- src/lib.rt:85:13
 element-set-from-d : tie.Need-element-set-from-d Inv-loop μ-loop
-element-set-from-d c = ?
+unfolding maxPeers
+element-set-from-d c = count-below (c .before .before .before .before .before .before .before)
 
--- src/lib.rt:86:26
 add-list : tie.Need-add-list Inv-loop μ-loop
-add-list c = ?
+add-list c =
+    omega (arith, maxPeers-small, count-below (c .before .before .before .before .before .before .before))
 
 enum-told : tie.Need-enum-told Inv-loop μ-loop
-enum-told c = ?
+enum-told c = search needs
 
--- src/lib.rt:88:9
 add-i : tie.Need-add-i Inv-loop μ-loop
-add-i c = ?
+add-i c = omega arith
 
--- src/lib.rt:82:5
 loop-less : tie.Need-loop-less Inv-loop μ-loop
-loop-less c = ?
+loop-less c = omega arith
 
--- src/lib.rt:82:5
 loop-again : tie.Need-loop-again Inv-loop μ-loop
-loop-again c = ?
+loop-again c =
+    let s = ap (λ (h : Hub). h .settings) (c .before .before .before .ring-other .ensures .0) ∙ but-kept _ _ _ .settings in
+    record {
+      usable = usable-kept _ _ (c .before .before .before .before .before .before .loop .inv .usable) (c .before .before .before .ring-other .kept .0) s;
+      kept = c .before .before .before .ring-other .kept .0 ∙ c .before .before .before .before .before .before .loop .inv .kept;
+      same = c .before .before .before .before .before .before .loop .inv .same ∙ ap (λ (s : Settings). s .peers) (sym s);
+      bound = omega arith;
+      few = omega (arith, more c .few);
+      room = more c .room ∙ c .before .before .before .before .before .before .loop .inv .room;
+      rest = rest-more _ _ _ _ _ _ _ _ _ (c .before .before .before .before .before .loop-test .taken) (c .before .before .before .ring-other .ensures .0) (c .before .before .before .ring-other .ensures .1) (more c) (c .before .before .before .before .before .before .loop .inv .rest);
+    }
 
--- src/lib.rt:74:1
 same-length : tie.Need-same-length Inv-loop μ-loop
-same-length c = ?
+same-length c = c .before .loop .inv .kept
 
--- src/lib.rt:74:1
 returns : tie.Need-returns Inv-loop μ-loop
-returns c = ?
+returns c = rest-last _ _ _ _ _ _ (c .loop-test .left) (c .before .loop .inv .rest)
 
 pub ring-others-spec : {M : Type 1} → statement M
 ring-others-spec =
