@@ -44,8 +44,8 @@ count-below c =
 more : (c : tie.At-match-came Inv-loop μ-loop) → More (c .before .before .before .before .before .before .loop .list) (c .before .before .before .ring-other .result) (c .match .list)
 more c =
     ⊎-elim
-    (λ w. ?)
-    (λ w. ?)
+    (λ w. rw (w .3, w .1 .given .1) (more-delivered _ _ (rw (c .before .before .before .before .before .before .loop .inv .room) (count-below (c .before .before .before .before .before)))))
+    (λ w. rw (w .2, w .1 .given .1) (more-lost _))
     (c .match .came)
 
 settings-requires : tie.Need-settings-requires Inv-loop μ-loop
