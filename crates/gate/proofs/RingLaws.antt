@@ -1,7 +1,7 @@
 -- Laws of specs/RingOutcome.antt and of the rings of the device: what a target tells, what one ring leaves, and that rings keep the
 -- settings and deliver at most one interrupt each.
 use Prim.Native.Nat.{ℕ, zero, suc, _+_, _≤_, _<_}
-use mathlib.Core.Bool.{Bool, true, false, cond}
+use mathlib.Core.Bool.{Bool, true, false, cond, _&&_}
 use mathlib.Core.List.{List, [], _∷_, _++_}
 use mathlib.Core.Path.{_≡_, refl, sym, ap, _∙_}
 use native.Mathlib.Omega.{arith}
@@ -24,7 +24,7 @@ use Rattle.device.specs.Sizes.{maxPeers, maxVectors}
 use Rattle.device.specs.World.{Hub, slotAt, entryAt, withSlot, withPeer}
 use Rattle.words.proofs.SlotLaws.{slot-kept}
 use Rattle.words.specs.Layout.{hubOf}
-use Rattle.gate.specs.RingOutcome.{Usable}
+use Rattle.gate.specs.RingOutcome.{Usable, disarmed}
 
 -- ids and vectors of a usable hub are those of its words
 pub peer-below : (ws : List ℕ) (i : ℕ) → Usable ws → i < hubOf ws .settings .peers → i < maxPeers
@@ -49,6 +49,10 @@ tests hub t v =
     ∷ ltb (v .0) (hub .settings .vectors)
     ∷ []
 
+-- the delivery of a ring that finds every switch on
+abbrev sent : Hub → PeerId → Vector → List Delivery
+sent hub t v = deliveryOf t v (entryAt (slotAt hub (t .0)) (v .0)) ∷ []
+
 module _ (hub : Hub) (t : PeerId) (v : Vector) where
   pub nobody : (k : ℕ) → getD (tests hub t v) k true ≡ false → Nobody ≡ target hub t v
   unfolding target
@@ -68,25 +72,21 @@ module _ (hub : Hub) (t : PeerId) (v : Vector) where
       by true f = (ltb-true _ _ (every-true (tests hub t v) f 0), ltb-true _ _ (every-true (tests hub t v) f 2))
       by false f = let z : _≡_ {A = ℕ} 0 1 = cc in absurd (omega arith)
 
-  -- the four ways of a ring
+  -- what a ring leaves: at nobody, and at a gate that is open or not
   pub unanswered : Nobody ≡ target hub t v → rung hub [] ≡ ring hub t v
   unfolding ring ringAt
   unanswered e = rw (← e)
 
   module _ (gate : Gate) (at : Live gate ≡ target hub t v) where
-    pub closed : opens gate ≡ false → rung hub [] ≡ ring hub t v
-    unfolding ring ringAt
-    closed o = rw (← at, o)
-
-    module _ (o : opens gate ≡ true) where
-      pub spent : gate .oneshot ≡ true
-          → rung (withSlot hub (t .0) (withPeer (slotAt hub (t .0)) (withInterrupt (slotAt hub (t .0) .peer) 0))) (deliveryOf t v (entryAt (slotAt hub (t .0)) (v .0)) ∷ []) ≡ ring hub t v
-      unfolding ring ringAt afterDelivery
-      spent s = rw (← at, o, s)
-
-      pub armed : gate .oneshot ≡ false → rung hub (deliveryOf t v (entryAt (slotAt hub (t .0)) (v .0)) ∷ []) ≡ ring hub t v
-      unfolding ring ringAt afterDelivery
-      armed s = rw (← at, o, s) (ap (λ (h : Hub). rung h (deliveryOf t v (entryAt (slotAt hub (t .0)) (v .0)) ∷ [])) (slot-kept hub (t .0)))
+    pub answered : (on : Bool) → opens gate ≡ on
+        → rung (cond (on && gate .oneshot) (disarmed hub (t .0)) hub) (cond on (sent hub t v) []) ≡ ring hub t v
+    unfolding ring ringAt afterDelivery
+    answered false o = rw (← at, o)
+    answered true o = rw (← at, o) (ap (λ (h : Hub). rung h (sent hub t v)) (either (gate .oneshot)))
+      where
+        either : (b : Bool) → cond b (disarmed hub (t .0)) hub ≡ withSlot hub (t .0) (cond b (withPeer (slotAt hub (t .0)) (withInterrupt (slotAt hub (t .0) .peer) 0)) (slotAt hub (t .0)))
+        either true = refl
+        either false = slot-kept hub (t .0)
 
 -- rings keep the settings, and deliver at most so many interrupts
 pub record Kept (hub : Hub) (n : ℕ) (r : Rung) : Type 0 where
