@@ -25,6 +25,7 @@ fn nothing() -> Delivery {
     }
 }
 
+// No delivery, and room for one at each id.
 fn empty() -> Deliveries
     ensures { λ r. ⌜ Empty r ⌝ }
 {
@@ -57,7 +58,7 @@ pub fn ring_one(hub: &mut [u32], t: PeerId, v: Vector) -> Deliveries
     }
 }
 
-// One turn of the rings at every other id: nobody rings itself.
+// One turn of the rings at every other id: the sender is not rung.
 fn ring_other(hub: &mut [u32], i: u64, who: u64) -> RingOutcome
     requires usable { ⌜ Usable (now hub) ⌝ }
     requires known { ⌜ i < hubOf (now hub) .settings .peers ⌝ }

@@ -1,15 +1,24 @@
 // One ring of one vector at one id of a hub.
 use super::RingOutcome;
-use device::{PeerId, Target, Vector};
+use device::{Entry, PeerId, Target, Vector};
 
 ghost use mathlib.Core.Bool.{cond};
 ghost use mathlib.Core.Path.{_≡_};
 ghost use Prim.Native.Nat.{_<_};
 ghost use lib.ListN.{length};
 ghost use Rattle.device.specs.Ring as Ring;
-ghost use Rattle.device.specs.Sizes.{maxPeers};
+ghost use Rattle.device.specs.Sizes.{maxPeers, maxVectors};
+ghost use Rattle.device.specs.World.{slotAt, entryAt};
 ghost use Rattle.words.specs.Layout.{hubWords, hubOf};
 ghost use Rattle.gate.specs.RingOutcome.{outcomeList, Usable, disarmed};
+
+fn entry_of(hub: &[u32], t: PeerId, v: Vector) -> Entry
+    requires room { ⌜ length (now hub) ≡ hubWords ⌝ }
+    requires known { ⌜ (t .0 < maxPeers) × (v .0 < maxVectors) ⌝ }
+    ensures { λ r. ⌜ r ≡ entryAt (slotAt (hubOf (now (hub .entry))) (t .0)) (v .0) ⌝ }
+{
+    words::entry(hub, t.0 as usize, v.0 as usize)
+}
 
 // Either a live peer with that vector, or nobody.
 fn target(hub: &[u32], t: PeerId, v: Vector) -> Target
@@ -27,8 +36,7 @@ fn target(hub: &[u32], t: PeerId, v: Vector) -> Target
     if s.vectors <= v.0 as u64 {
         return Target::Nobody;
     }
-    let e = words::entry(hub, t.0 as usize, v.0 as usize);
-    Target::Live(super::gate_of(p, e))
+    Target::Live(super::gate_of(p, entry_of(hub, t, v)))
 }
 
 // Interrupt Control 0, where a delivery has spent the one shot.
@@ -54,7 +62,7 @@ pub fn ring(hub: &mut [u32], t: PeerId, v: Vector) -> RingOutcome
     let Target::Live(gate) = target(hub, t, v) else {
         return RingOutcome::Lost;
     };
-    let e = words::entry(hub, t.0 as usize, v.0 as usize);
+    let e = entry_of(hub, t, v);
     let open = super::opens(gate);
     disarm(hub, t, open & gate.oneshot);
     if open {

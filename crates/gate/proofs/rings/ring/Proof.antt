@@ -1,5 +1,6 @@
 -- `gate::rings::ring` meets its contract: at nobody, at an open gate and at one that is not.
 use mathlib.Core.Path.{sym, _∙_}
+use native.Mathlib.Omega.{arith}
 use borrow.Author.Needs.{needs}
 use Rattle.gate.specs.RingOutcome.{outcomeList}
 use Rattle.gate.proofs.RingLaws.{peer-below, vector-below, found, apart, unanswered, answered}
@@ -22,23 +23,19 @@ returns : tie.Need-returns
 unfolding outcomeList
 returns c = apart _ _ (unanswered _ _ _ (sym (c .enum-told .given .1) ∙ c .before .before .target .ensures))
 
-cast-entry : tie.Need-cast-entry
-cast-entry c = search needs
-
-cast-entry-2 : tie.Need-cast-entry-2
-cast-entry-2 c = search needs
-
-entry-requires : tie.Need-entry-requires
-entry-requires c κs =
-    let f = found _ _ _ _ (sym (c .before .before .before .before .gate .given .1) ∙ c .before .before .before .before .before .before .target .ensures) in
-    (c .before .before .before .before .before .before .before .before .before .pre .room, (peer-below _ _ (c .before .before .before .before .before .before .before .before .before .pre) (f .0), vector-below _ _ (c .before .before .before .before .before .before .before .before .before .pre) (f .1)))
+entry-of-requires : tie.Need-entry-of-requires
+entry-of-requires c κs =
+    let f = found _ _ _ _ (sym (c .before .before .gate .given .1) ∙ c .before .before .before .before .target .ensures) in
+    let p = peer-below _ _ (c .before .before .before .before .before .before .before .pre) (f .0) in
+    let q = vector-below _ _ (c .before .before .before .before .before .before .before .pre) (f .1) in
+    (c .before .before .before .before .before .before .before .pre .room, omega arith)
 
 opens-requires : tie.Need-opens-requires
 opens-requires c κs = search needs
 
 disarm-requires : tie.Need-disarm-requires
 disarm-requires c κs =
-    (c .before .before .before .before .before .before .before .before .before .before .before .before .before .pre .room, peer-below _ _ (c .before .before .before .before .before .before .before .before .before .before .before .before .before .pre) (found _ _ _ _ (sym (c .before .before .before .before .before .before .before .before .gate .given .1) ∙ c .before .before .before .before .before .before .before .before .before .before .target .ensures) .0))
+    (c .before .before .before .before .before .before .before .before .before .before .before .pre .room, peer-below _ _ (c .before .before .before .before .before .before .before .before .before .before .before .pre) (found _ _ _ _ (sym (c .before .before .before .before .before .before .gate .given .1) ∙ c .before .before .before .before .before .before .before .before .target .ensures) .0))
 
 delivery-of-requires : tie.Need-delivery-of-requires
 delivery-of-requires c κs = search needs
@@ -49,8 +46,8 @@ same-length-2 c = search needs
 returns-2 : tie.Need-returns-2
 unfolding outcomeList
 returns-2 c =
-    let r = apart _ _ (answered _ _ _ _ (sym (c .before .before .before .before .before .before .before .before .before .before .before .before .before .gate .given .1) ∙ c .before .before .before .before .before .before .before .before .before .before .before .before .before .before .before .target .ensures) _ (sym (c .before .before .before .before .before .before .before .opens .ensures))) in
-    (c .before .before .before .before .disarm .ensures ∙ r .0, rw (c .delivery-of .ensures, c .before .before .before .before .before .before .before .before .entry .ensures) (rw (c .before .if1 .taken) at (r .1)))
+    let r = apart _ _ (answered _ _ _ _ (sym (c .before .before .before .before .before .before .before .before .before .before .before .gate .given .1) ∙ c .before .before .before .before .before .before .before .before .before .before .before .before .before .target .ensures) _ (sym (c .before .before .before .before .before .before .before .opens .ensures))) in
+    (c .before .before .before .before .disarm .ensures ∙ r .0, rw (c .delivery-of .ensures, c .before .before .before .before .before .before .before .before .entry-of .ensures) (rw (c .before .if1 .taken) at (r .1)))
 
 same-length-3 : tie.Need-same-length-3
 same-length-3 c = search needs
@@ -58,7 +55,7 @@ same-length-3 c = search needs
 returns-3 : tie.Need-returns-3
 unfolding outcomeList
 returns-3 c =
-    let r = apart _ _ (answered _ _ _ _ (sym (c .before .before .before .before .before .before .before .before .before .before .before .before .gate .given .1) ∙ c .before .before .before .before .before .before .before .before .before .before .before .before .before .before .target .ensures) _ (sym (c .before .before .before .before .before .before .opens .ensures))) in
+    let r = apart _ _ (answered _ _ _ _ (sym (c .before .before .before .before .before .before .before .before .before .before .gate .given .1) ∙ c .before .before .before .before .before .before .before .before .before .before .before .before .target .ensures) _ (sym (c .before .before .before .before .before .before .opens .ensures))) in
     (c .before .before .before .disarm .ensures ∙ r .0, rw (c .if1 .left) at (r .1))
 
 pub ring-spec : {M : Type 1} → statement M
@@ -70,9 +67,7 @@ ring-spec =
     enum-told
     same-length
     returns
-    cast-entry
-    cast-entry-2
-    entry-requires
+    entry-of-requires
     opens-requires
     disarm-requires
     delivery-of-requires

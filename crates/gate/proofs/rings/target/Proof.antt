@@ -1,5 +1,4 @@
 -- `gate::rings::target` meets its contract: the code's tests are the definition's, one by one.
-use mathlib.Core.Path.{_≡_, ap, _∙_}
 use borrow.Author.Needs.{needs}
 use borrow.Author.Tests.{le-ltb, ne-eqb}
 use Rattle.gate.proofs.RingLaws.{nobody, live, peer-below, vector-below}
@@ -30,22 +29,16 @@ cast-if3 c = search needs
 returns-3 : tie.Need-returns-3
 returns-3 c = nobody _ _ _ 2 (le-ltb _ _ (rw (c .before .before .before .before .before .before .before .before .before .before .settings .ensures) at (c .if3 .taken)))
 
-cast-entry : tie.Need-cast-entry
-cast-entry c = search needs
-
-cast-entry-2 : tie.Need-cast-entry-2
-cast-entry-2 c = search needs
-
-entry-requires : tie.Need-entry-requires
-entry-requires c κs =
-    (c .before .before .before .before .before .before .before .before .before .before .before .before .before .before .pre .room, (peer-below _ _ (c .before .before .before .before .before .before .before .before .before .before .before .before .before .before .pre) (rw (c .before .before .before .before .before .before .before .before .before .before .before .before .settings .ensures) at (c .before .before .before .before .before .before .before .before .before .if1 .left)), vector-below _ _ (c .before .before .before .before .before .before .before .before .before .before .before .before .before .before .pre) (rw (c .before .before .before .before .before .before .before .before .before .before .before .before .settings .ensures) at (c .before .before .if3 .left))))
+entry-of-requires : tie.Need-entry-of-requires
+entry-of-requires c κs =
+    (c .before .before .before .before .before .before .before .before .before .before .before .before .pre .room, (peer-below _ _ (c .before .before .before .before .before .before .before .before .before .before .before .before .pre) (rw (c .before .before .before .before .before .before .before .before .before .before .settings .ensures) at (c .before .before .before .before .before .before .before .if1 .left)), vector-below _ _ (c .before .before .before .before .before .before .before .before .before .before .before .before .pre) (rw (c .before .before .before .before .before .before .before .before .before .before .settings .ensures) at (c .if3 .left))))
 
 gate-of-requires : tie.Need-gate-of-requires
 gate-of-requires c κs = search needs
 
 returns-4 : tie.Need-returns-4
 returns-4 c =
-    rw (c .gate-of .ensures, c .before .entry .ensures, c .before .before .before .before .before .before .before .before .before .peer .ensures) (live _ _ _ (rw (c .before .before .before .before .before .before .before .before .before .before .before .before .before .before .settings .ensures) at (c .before .before .before .before .before .before .before .before .before .before .before .if1 .left)) (rw (c .before .before .before .before .before .before .before .before .before .peer .ensures) at (c .before .before .before .before .before .before .before .if2 .left)) (rw (c .before .before .before .before .before .before .before .before .before .before .before .before .before .before .settings .ensures) at (c .before .before .before .before .if3 .left)))
+    rw (c .gate-of .ensures, c .before .entry-of .ensures, c .before .before .before .before .before .before .before .peer .ensures) (live _ _ _ (rw (c .before .before .before .before .before .before .before .before .before .before .before .before .settings .ensures) at (c .before .before .before .before .before .before .before .before .before .if1 .left)) (rw (c .before .before .before .before .before .before .before .peer .ensures) at (c .before .before .before .before .before .if2 .left)) (rw (c .before .before .before .before .before .before .before .before .before .before .before .before .settings .ensures) at (c .before .before .if3 .left)))
 
 pub target-spec : {M : Type 1} → statement M
 target-spec =
@@ -59,8 +52,6 @@ target-spec =
     returns-2
     cast-if3
     returns-3
-    cast-entry
-    cast-entry-2
-    entry-requires
+    entry-of-requires
     gate-of-requires
     returns-4)
