@@ -1,4 +1,5 @@
 -- `gate::rings::ring` meets its contract: at nobody, at an open gate and at one that is not.
+use mathlib.Core.Bool.{true, false}
 use mathlib.Core.Path.{sym, _∙_}
 use native.Mathlib.Omega.{arith}
 use borrow.Author.Needs.{needs}
@@ -46,8 +47,8 @@ same-length-2 c = search needs
 returns-2 : tie.Need-returns-2
 unfolding outcomeList
 returns-2 c =
-    let r = apart _ _ (answered _ _ _ _ (sym (c .before .before .before .before .before .before .before .before .before .before .before .gate .given .1) ∙ c .before .before .before .before .before .before .before .before .before .before .before .before .before .target .ensures) _ (sym (c .before .before .before .before .before .before .before .opens .ensures))) in
-    (c .before .before .before .before .disarm .ensures ∙ r .0, rw (c .delivery-of .ensures, c .before .before .before .before .before .before .before .before .entry-of .ensures) (rw (c .before .if1 .taken) at (r .1)))
+    let r = apart _ _ (answered _ _ _ _ (sym (c .before .before .before .before .before .before .before .before .before .before .before .gate .given .1) ∙ c .before .before .before .before .before .before .before .before .before .before .before .before .before .target .ensures) true (sym (c .before .before .before .before .before .before .before .opens .ensures) ∙ c .before .if1 .taken)) in
+    ((rw (c .before .if1 .taken) at (c .before .before .before .before .disarm .ensures)) ∙ r .0, rw (c .delivery-of .ensures, c .before .before .before .before .before .before .before .before .entry-of .ensures) (r .1))
 
 same-length-3 : tie.Need-same-length-3
 same-length-3 c = search needs
@@ -55,8 +56,8 @@ same-length-3 c = search needs
 returns-3 : tie.Need-returns-3
 unfolding outcomeList
 returns-3 c =
-    let r = apart _ _ (answered _ _ _ _ (sym (c .before .before .before .before .before .before .before .before .before .before .gate .given .1) ∙ c .before .before .before .before .before .before .before .before .before .before .before .before .target .ensures) _ (sym (c .before .before .before .before .before .before .opens .ensures))) in
-    (c .before .before .before .disarm .ensures ∙ r .0, rw (c .if1 .left) at (r .1))
+    let r = apart _ _ (answered _ _ _ _ (sym (c .before .before .before .before .before .before .before .before .before .before .gate .given .1) ∙ c .before .before .before .before .before .before .before .before .before .before .before .before .target .ensures) false (sym (c .before .before .before .before .before .before .opens .ensures) ∙ c .if1 .left)) in
+    ((rw (c .if1 .left) at (c .before .before .before .disarm .ensures)) ∙ r .0, r .1)
 
 pub ring-spec : {M : Type 1} → statement M
 ring-spec =
