@@ -7,7 +7,7 @@ use native.Mathlib.Numerals.{add-one}
 use native.Mathlib.Omega.{arith}
 use lib.Dec.{eqb}
 use lib.ListN.{length, set, length-set, length-append}
-use lib.Seq.{take-suc-set}
+use lib.Seq.{length-take-le, take-suc-set}
 use Rattle.device.specs.declared.Delivery.{Delivery}
 use Rattle.device.specs.Ring.{Rung, rung, rungThen, ring, ringFrom, ringOthers, peerId, vector}
 use Rattle.device.specs.World.{Hub}
@@ -22,7 +22,19 @@ pub empty-listed : (d : Deliveries) → Empty d → listed d ≡ []
 unfolding listed
 empty-listed d e = rw (e .none)
 
--- a list with what one ring gave behind it
+-- no count beyond the records
+pub counted : (d : Deliveries) → d .count ≤ length (d .records) → d .count ≡ length (listed d)
+unfolding listed
+counted d l = sym (length-take-le (d .count) (d .records) l)
+
+pub empty-counted : (d : Deliveries) → Empty d → d .count ≡ length (listed d)
+empty-counted d e = counted d (omega arith)
+
+pub single : (records : List Delivery) (d : Delivery) → 0 < length records → listed (record { count = 1; records = set records 0 d }) ≡ d ∷ []
+unfolding listed
+single records d l = take-suc-set records 0 d l
+
+-- a list with one ring's outcome appended
 pub record More (before : Deliveries) (outcome : RingOutcome) (after : Deliveries) : Type 0 where
   pub few : after .count ≤ before .count + 1
   pub room : length (after .records) ≡ length (before .records)
@@ -56,7 +68,11 @@ unfolding ringFrom ringBut
 from-kept zero i who hub = record { settings = refl; few = omega arith }
 from-kept (suc n) i who hub = then-kept hub n (ringBut who hub i) (λ h. ringFrom n (suc i) who h) (but-kept who hub i) (from-kept n (suc i) who _)
 
--- what has been listed and what the turns left give, which is all in each turn
+pub others-kept : (who : ℕ) (hub : Hub) → Kept hub (hub .settings .peers) (ringOthers who hub)
+unfolding ringOthers
+others-kept who hub = from-kept (hub .settings .peers) 0 who hub
+
+-- what is listed, followed by what the turns left deliver, is the whole
 abbrev pub Rest : ℕ → ℕ → ℕ → Hub → Deliveries → Rung → Type 0
 Rest who peers i hub d whole = rungThen (rung hub (listed d)) (λ h. ringFrom (peers - i) i who h) ≡ whole
 

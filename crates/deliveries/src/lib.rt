@@ -5,6 +5,7 @@ use gate::RingOutcome;
 ghost use mathlib.Core.Path.{_≡_};
 ghost use Prim.Native.Nat.{_<_};
 ghost use mathlib.Core.List.{[]};
+ghost use lib.ListN.{length};
 ghost use Rattle.device.specs.Ring as Ring;
 ghost use Rattle.words.specs.Layout.{hubOf};
 ghost use Rattle.gate.specs.RingOutcome.{outcomeList, Usable};
@@ -36,7 +37,8 @@ fn empty() -> Deliveries
 }
 
 pub fn none() -> Deliveries
-    ensures { λ r. ⌜ listed r ≡ [] ⌝ }
+    ensures deliveries { λ r. ⌜ listed r ≡ [] ⌝ }
+    ensures count { λ r. ⌜ r .count ≡ length (listed r) ⌝ }
 {
     empty()
 }
@@ -46,6 +48,7 @@ pub fn ring_one(hub: &mut [u32], t: PeerId, v: Vector) -> Deliveries
     requires { ⌜ Usable (now hub) ⌝ }
     ensures hub { λ r. ⌜ hubOf (now (hub .exit)) ≡ Ring.ring (hubOf (now (hub .entry))) t v .hub ⌝ }
     ensures deliveries { λ r. ⌜ listed r ≡ Ring.ring (hubOf (now (hub .entry))) t v .deliveries ⌝ }
+    ensures count { λ r. ⌜ r .count ≡ length (listed r) ⌝ }
 {
     let mut list = empty();
     match gate::ring(hub, t, v) {
@@ -76,6 +79,7 @@ pub fn ring_others(hub: &mut [u32], who: u64) -> Deliveries
     requires { ⌜ Usable (now hub) ⌝ }
     ensures hub { λ r. ⌜ hubOf (now (hub .exit)) ≡ Ring.ringOthers who (hubOf (now (hub .entry))) .hub ⌝ }
     ensures deliveries { λ r. ⌜ listed r ≡ Ring.ringOthers who (hubOf (now (hub .entry))) .deliveries ⌝ }
+    ensures count { λ r. ⌜ r .count ≡ length (listed r) ⌝ }
 {
     let peers = words::settings(hub).peers;
     let mut list = empty();

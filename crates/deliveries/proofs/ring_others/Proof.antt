@@ -7,6 +7,7 @@ use native.Mathlib.Omega.{arith}
 use lib.ListN.{length}
 use borrow.Author.Needs.{needs}
 use Rattle.deliveries.specs.declared.Deliveries.{Deliveries}
+use Rattle.device.proofs.SetUpLaws.{accepted-facts}
 use Rattle.device.proofs.SizeLaws.{maxPeers-small}
 use Rattle.device.specs.Ring.{ringOthers}
 use Rattle.device.specs.Sizes.{maxPeers}
@@ -15,7 +16,7 @@ use Rattle.device.specs.declared.Settings.{Settings}
 use Rattle.gate.proofs.RingLaws.{peer-below, usable-kept}
 use Rattle.gate.specs.RingOutcome.{Usable}
 use Rattle.words.specs.Layout.{hubOf}
-use Rattle.deliveries.proofs.ListedLaws.{More, more-lost, more-delivered, but-kept, Rest, rest-first, rest-more, rest-last}
+use Rattle.deliveries.proofs.ListedLaws.{counted, More, more-lost, more-delivered, but-kept, Rest, rest-first, rest-more, rest-last}
 use Rattle.deliveries.proofs.ring_others.Statement.{statement}
 use Rattle.deliveries.proofs.ring_others.Tie as tie
 
@@ -110,7 +111,9 @@ same-length : tie.Need-same-length Inv-loop μ-loop
 same-length c = c .before .loop .inv .kept
 
 returns : tie.Need-returns Inv-loop μ-loop
-returns c = rest-last _ _ _ _ _ _ (c .loop-test .left) (c .before .loop .inv .rest)
+returns c =
+    let r = rest-last _ _ _ _ _ _ (c .loop-test .left) (c .before .loop .inv .rest) in
+    (r .0, (r .1, counted _ (omega (arith, accepted-facts _ (c .before .loop .inv .usable .numbers) .peers))))
 
 pub ring-others-spec : {M : Type 1} → statement M
 ring-others-spec =
