@@ -1,7 +1,8 @@
 // Deliveries by value, in ring order, and the rings at every other id.
-use device::{Delivery, PeerId, Vector};
+use device::Delivery;
+use device::PeerId;
+use device::Vector;
 use gate::RingOutcome;
-
 ghost use mathlib.Core.Path.{_≡_};
 ghost use Prim.Native.Nat.{_<_};
 ghost use mathlib.Core.List.{[]};

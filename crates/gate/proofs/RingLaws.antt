@@ -1,13 +1,13 @@
--- Laws of specs/RingOutcome.antt and of the rings of the device: what a target tells, what one ring leaves, and that rings keep the
--- settings and deliver at most one interrupt each.
-use Prim.Native.Nat.{ℕ, zero, suc, _+_, _≤_, _<_}
+-- Laws of one ring: what a target tells, what one ring leaves, and that a ring keeps the settings and delivers at most one
+-- interrupt.
+use Prim.Native.Nat.{ℕ, _≤_, _<_}
 use mathlib.Core.Bool.{Bool, true, false, cond, _&&_}
-use mathlib.Core.List.{List, [], _∷_, _++_}
-use mathlib.Core.Path.{_≡_, refl, sym, ap, _∙_}
+use mathlib.Core.List.{List, [], _∷_}
+use mathlib.Core.Path.{_≡_, refl, ap, _∙_}
 use native.Mathlib.Omega.{arith}
 use borrow.Author.Tests.{ltb-true, lt-ltb, eq-eqb}
 use lib.Dec.{eqb, ltb}
-use lib.ListN.{length, getD, length-append}
+use lib.ListN.{length, getD}
 use Rattle.common.proofs.TestLaws.{every-false, every-true}
 use Rattle.common.specs.Tests.{every}
 use Rattle.device.proofs.SetUpLaws.{accepted-facts}
@@ -18,7 +18,7 @@ use Rattle.device.specs.declared.Settings.{Settings}
 use Rattle.device.specs.declared.Target.{Target}
 use Rattle.device.specs.declared.Target.the-variants.{Live, Nobody}
 use Rattle.device.specs.declared.Vector.{Vector}
-use Rattle.device.specs.Ring.{Rung, rung, gateOf, opens, target, deliveryOf, withInterrupt, afterDelivery, ringAt, ring, ringFrom, peerId, vector}
+use Rattle.device.specs.Ring.{Rung, rung, gateOf, opens, target, deliveryOf, withInterrupt, afterDelivery, ringAt, ring}
 use Rattle.device.specs.SetUp.{accepted}
 use Rattle.device.specs.Sizes.{maxPeers, maxVectors}
 use Rattle.device.specs.World.{Hub, slotAt, entryAt, withSlot, withPeer}
@@ -33,7 +33,8 @@ peer-below ws i u l = omega (arith, accepted-facts _ (u .numbers) .peers)
 pub vector-below : (ws : List ℕ) (v : ℕ) → Usable ws → v < hubOf ws .settings .vectors → v < maxVectors
 vector-below ws v u l = omega (arith, accepted-facts _ (u .numbers) .vectors)
 
-pub usable-kept : (before after : List ℕ) → Usable before → length after ≡ length before → hubOf after .settings ≡ hubOf before .settings → Usable after
+pub usable-kept : (before after : List ℕ) → Usable before → length after ≡ length before
+    → hubOf after .settings ≡ hubOf before .settings → Usable after
 usable-kept before after u size same =
     record { room = size ∙ u .room; numbers = ap (λ (s : Settings). accepted s) same ∙ u .numbers }
 
@@ -84,7 +85,9 @@ module _ (hub : Hub) (t : PeerId) (v : Vector) where
     answered false o = rw (← at, o)
     answered true o = rw (← at, o) (ap (λ (h : Hub). rung h (sent hub t v)) (either (gate .oneshot)))
       where
-        either : (b : Bool) → cond b (disarmed hub (t .0)) hub ≡ withSlot hub (t .0) (cond b (withPeer (slotAt hub (t .0)) (withInterrupt (slotAt hub (t .0) .peer) 0)) (slotAt hub (t .0)))
+        either : (b : Bool)
+            → cond b (disarmed hub (t .0)) hub
+              ≡ withSlot hub (t .0) (cond b (withPeer (slotAt hub (t .0)) (withInterrupt (slotAt hub (t .0) .peer) 0)) (slotAt hub (t .0)))
         either true = refl
         either false = slot-kept hub (t .0)
 

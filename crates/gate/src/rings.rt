@@ -1,7 +1,9 @@
 // One ring of one vector at one id of a hub.
 use super::RingOutcome;
-use device::{Entry, PeerId, Target, Vector};
-
+use device::Entry;
+use device::PeerId;
+use device::Target;
+use device::Vector;
 ghost use mathlib.Core.Bool.{cond};
 ghost use mathlib.Core.Path.{_≡_};
 ghost use Prim.Native.Nat.{_<_};

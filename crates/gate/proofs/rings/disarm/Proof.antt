@@ -1,5 +1,4 @@
 -- `gate::rings::disarm` meets its contract: one register of one slot changes, or nothing.
-use mathlib.Core.Path.{refl}
 use borrow.Author.Needs.{needs}
 use borrow.Author.Tests.{not-true, not-false}
 use Rattle.gate.proofs.rings.disarm.Statement.{statement}
