@@ -87,7 +87,7 @@ module _ (hub : Hub) (t : PeerId) (v : Vector) where
       where
         either : (b : Bool)
             → cond b (disarmed hub (t .0)) hub
-              ≡ withSlot hub (t .0) (cond b (withPeer (slotAt hub (t .0)) (withInterrupt (slotAt hub (t .0) .peer) 0)) (slotAt hub (t .0)))
+            ≡ withSlot hub (t .0) (cond b (withPeer (slotAt hub (t .0)) (withInterrupt (slotAt hub (t .0) .peer) 0)) (slotAt hub (t .0)))
         either true = refl
         either false = slot-kept hub (t .0)
 

@@ -41,13 +41,13 @@ fn target(hub: &[u32], t: PeerId, v: Vector) -> Target
     Target::Live(super::gate_of(p, entry_of(hub, t, v)))
 }
 
-// Interrupt Control 0, where a delivery has spent the one shot.
-fn disarm(hub: &mut [u32], t: PeerId, spent: bool)
+// Interrupt Control becomes 0 where a delivery was made in one-shot mode.
+fn disarm(hub: &mut [u32], t: PeerId, clear: bool)
     requires room { ⌜ length (now hub) ≡ hubWords ⌝ }
     requires known { ⌜ t .0 < maxPeers ⌝ }
-    ensures { λ r. ⌜ hubOf (now (hub .exit)) ≡ cond spent (disarmed (hubOf (now (hub .entry))) (t .0)) (hubOf (now (hub .entry))) ⌝ }
+    ensures { λ r. ⌜ hubOf (now (hub .exit)) ≡ cond clear (disarmed (hubOf (now (hub .entry))) (t .0)) (hubOf (now (hub .entry))) ⌝ }
 {
-    if !spent {
+    if !clear {
         return;
     }
     let mut p = words::peer(hub, t.0 as usize);

@@ -5,7 +5,7 @@ use Rattle.gate.proofs.rings.disarm.Statement.{statement}
 use Rattle.gate.proofs.rings.disarm.Tie as tie
 
 returns : tie.Need-returns
-returns c = rw (not-true (c .before .before .args .spent) (c .if1 .taken))
+returns c = rw (not-true (c .before .before .args .clear) (c .if1 .taken))
 
 cast-peer : tie.Need-cast-peer
 cast-peer c = search needs
@@ -23,7 +23,7 @@ same-length : tie.Need-same-length
 same-length c = search needs
 
 returns-2 : tie.Need-returns-2
-returns-2 c = rw (not-false (c .before .before .before .before .before .before .before .before .before .before .args .spent) (c .before .before .before .before .before .before .before .before .if1 .left)) (rw (c .before .before .before .before .before .peer .ensures) at (c .before .before .put-peer .ensures))
+returns-2 c = rw (not-false (c .before .before .before .before .before .before .before .before .before .before .args .clear) (c .before .before .before .before .before .before .before .before .if1 .left)) (rw (c .before .before .before .before .before .peer .ensures) at (c .before .before .put-peer .ensures))
 
 pub disarm-spec : {M : Type 1} → statement M
 disarm-spec =
