@@ -1,8 +1,25 @@
--- The list that a by-value list of deliveries is: its first records, as many as its count says.
-use mathlib.Core.List.{List}
-use lib.ListN.{take}
+-- The list that a by-value list of deliveries is: its first records, as many as its count says. And one turn of the rings at every
+-- other id.
+use Prim.Native.Nat.{ℕ}
+use mathlib.Core.Bool.{cond}
+use mathlib.Core.List.{List, []}
+use mathlib.Core.Path.{_≡_}
+use lib.Dec.{eqb}
+use lib.ListN.{length, take}
 use Rattle.device.specs.declared.Delivery.{Delivery}
+use Rattle.device.specs.Ring.{Rung, rung, ring, peerId, vector}
+use Rattle.device.specs.Sizes.{maxPeers}
+use Rattle.device.specs.World.{Hub}
 use Rattle.deliveries.specs.declared.Deliveries.{Deliveries}
 
 unfoldable pub listed : Deliveries → List Delivery
 listed d = take (d .count) (d .records)
+
+-- no delivery, and room for one at each id
+pub record Empty (d : Deliveries) : Type 0 where
+  pub none : d .count ≡ 0
+  pub room : length (d .records) ≡ maxPeers
+
+-- the sender is not rung
+unfoldable pub ringBut : ℕ → Hub → ℕ → Rung
+ringBut who hub i = cond (eqb i who) (rung hub []) (ring hub (peerId i) (vector 0))

@@ -5,8 +5,9 @@ mod rings;
 mod switches;
 
 pub use rings::ring;
-
-use switches::{delivery_of, gate_of, opens};
+use switches::delivery_of;
+use switches::gate_of;
+use switches::opens;
 
 // What became of a ring.
 pub enum RingOutcome {

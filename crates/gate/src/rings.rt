@@ -1,11 +1,26 @@
 // One ring of one vector at one id of a hub.
 use super::RingOutcome;
-use device::{Peer, PeerId, Target, Vector};
-
+use device::Entry;
+use device::PeerId;
+use device::Target;
+use device::Vector;
+ghost use mathlib.Core.Bool.{cond};
 ghost use mathlib.Core.Path.{_≡_};
+ghost use Prim.Native.Nat.{_<_};
+ghost use lib.ListN.{length};
 ghost use Rattle.device.specs.Ring as Ring;
-ghost use Rattle.words.specs.Layout.{hubOf};
-ghost use Rattle.gate.specs.RingOutcome.{outcomeList, Usable};
+ghost use Rattle.device.specs.Sizes.{maxPeers, maxVectors};
+ghost use Rattle.device.specs.World.{slotAt, entryAt};
+ghost use Rattle.words.specs.Layout.{hubWords, hubOf};
+ghost use Rattle.gate.specs.RingOutcome.{outcomeList, Usable, disarmed};
+
+fn entry_of(hub: &[u32], t: PeerId, v: Vector) -> Entry
+    requires room { ⌜ length (now hub) ≡ hubWords ⌝ }
+    requires known { ⌜ (t .0 < maxPeers) × (v .0 < maxVectors) ⌝ }
+    ensures { λ r. ⌜ r ≡ entryAt (slotAt (hubOf (now (hub .entry))) (t .0)) (v .0) ⌝ }
+{
+    words::entry(hub, t.0 as usize, v.0 as usize)
+}
 
 // Either a live peer with that vector, or nobody.
 fn target(hub: &[u32], t: PeerId, v: Vector) -> Target
@@ -23,20 +38,24 @@ fn target(hub: &[u32], t: PeerId, v: Vector) -> Target
     if s.vectors <= v.0 as u64 {
         return Target::Nobody;
     }
-    let e = words::entry(hub, t.0 as usize, v.0 as usize);
-    Target::Live(super::gate_of(p, e))
+    Target::Live(super::gate_of(p, entry_of(hub, t, v)))
 }
 
-// A peer with Interrupt Control 0.
-fn disarmed(p: Peer) -> Peer
-    ensures { λ r. ⌜ r ≡ Ring.withInterrupt p 0 ⌝ }
+// Interrupt Control becomes 0 where a delivery was made in one-shot mode.
+fn disarm(hub: &mut [u32], t: PeerId, clear: bool)
+    requires room { ⌜ length (now hub) ≡ hubWords ⌝ }
+    requires known { ⌜ t .0 < maxPeers ⌝ }
+    ensures { λ r. ⌜ hubOf (now (hub .exit)) ≡ cond clear (disarmed (hubOf (now (hub .entry))) (t .0)) (hubOf (now (hub .entry))) ⌝ }
 {
-    let mut q = p;
-    q.interrupt = 0;
-    q
+    if !clear {
+        return;
+    }
+    let mut p = words::peer(hub, t.0 as usize);
+    p.interrupt = 0;
+    words::put_peer(hub, t.0 as usize, p);
 }
 
-// A ring that is not delivered leaves no trace; one that is disarms a target in one-shot mode.
+// A ring that is not delivered changes nothing; one that is disarms a target in one-shot mode.
 pub fn ring(hub: &mut [u32], t: PeerId, v: Vector) -> RingOutcome
     requires { ⌜ Usable (now hub) ⌝ }
     ensures hub { λ r. ⌜ hubOf (now (hub .exit)) ≡ Ring.ring (hubOf (now (hub .entry))) t v .hub ⌝ }
@@ -45,14 +64,11 @@ pub fn ring(hub: &mut [u32], t: PeerId, v: Vector) -> RingOutcome
     let Target::Live(gate) = target(hub, t, v) else {
         return RingOutcome::Lost;
     };
+    let e = entry_of(hub, t, v);
     let open = super::opens(gate);
-    if !open {
-        return RingOutcome::Lost;
+    disarm(hub, t, open & gate.oneshot);
+    if open {
+        return RingOutcome::Delivered(super::delivery_of(t, v, e));
     }
-    let e = words::entry(hub, t.0 as usize, v.0 as usize);
-    if gate.oneshot {
-        let p = words::peer(hub, t.0 as usize);
-        words::put_peer(hub, t.0 as usize, disarmed(p));
-    }
-    RingOutcome::Delivered(super::delivery_of(t, v, e))
+    RingOutcome::Lost
 }

@@ -1,6 +1,10 @@
 // The switches of a target, and the delivery from an entry.
-use device::{Delivery, Entry, Gate, Peer, PeerId, Vector};
-
+use device::Delivery;
+use device::Entry;
+use device::Gate;
+use device::Peer;
+use device::PeerId;
+use device::Vector;
 ghost use mathlib.Core.Path.{_≡_};
 ghost use Rattle.device.specs.Ring.{gateOf, opens, deliveryOf};
 

@@ -1,0 +1,137 @@
+-- `deliveries::ring_others` meets its contract. The loop's invariant: what is listed and what the turns left give is the whole.
+use Prim.Native.Nat.{ℕ, _-_, _≤_, _<_}
+use mathlib.Core.List.{List}
+use mathlib.Core.Logic.{⊎-elim}
+use mathlib.Core.Path.{_≡_, refl, sym, ap, _∙_}
+use native.Mathlib.Omega.{arith}
+use lib.ListN.{length}
+use borrow.Author.Needs.{needs}
+use Rattle.deliveries.specs.declared.Deliveries.{Deliveries}
+use Rattle.device.proofs.SetUpLaws.{accepted-facts}
+use Rattle.device.proofs.SizeLaws.{maxPeers-small}
+use Rattle.device.specs.Ring.{ringOthers}
+use Rattle.device.specs.Sizes.{maxPeers}
+use Rattle.device.specs.World.{Hub}
+use Rattle.device.specs.declared.Settings.{Settings}
+use Rattle.gate.proofs.RingLaws.{peer-below, usable-kept}
+use Rattle.gate.specs.RingOutcome.{Usable}
+use Rattle.words.specs.Layout.{hubOf}
+use Rattle.deliveries.proofs.ListedLaws.{counted, More, more-lost, more-delivered, but-kept, Rest, rest-first, rest-more, rest-last}
+use Rattle.deliveries.proofs.ring_others.Statement.{statement}
+use Rattle.deliveries.proofs.ring_others.Tie as tie
+
+record Inv (hub₀ : List ℕ) (who peers : ℕ) (hub : List ℕ) (list : Deliveries) (i : ℕ) : Type 0 where
+  usable : Usable hub
+  kept : length hub ≡ length hub₀
+  same : peers ≡ hubOf hub .settings .peers
+  bound : i ≤ peers
+  few : list .count ≤ i
+  room : length (list .records) ≡ maxPeers
+  rest : Rest who peers i (hubOf hub) list (ringOthers who (hubOf hub₀))
+
+abbrev Inv-loop : tie.InvT-loop
+Inv-loop hub₀ who peers list₀ i₀ hub list i = Inv hub₀ who peers hub list i
+
+abbrev μ-loop : tie.MeasureT-loop
+μ-loop hub₀ who peers list₀ i₀ hub list i = peers - i
+
+-- in a turn there is room for one delivery more
+count-below : (c : tie.In-loop Inv-loop μ-loop) → c .before .loop .list .count < maxPeers
+count-below c =
+    let l : c .before .loop .i < hubOf (c .before .loop .hub) .settings .peers = omega arith in
+    omega (arith, peer-below (c .before .loop .hub) (c .before .loop .i) (c .before .loop .inv .usable) l)
+
+-- what the turn's ring gave is listed, whichever it was
+more : (c : tie.At-match-came Inv-loop μ-loop) → More (c .before .before .before .before .before .before .loop .list) (c .before .before .before .ring-other .result) (c .match .list)
+more c =
+    ⊎-elim
+    (λ w. rw (w .3, w .1 .given .1) (more-delivered _ _ (rw (c .before .before .before .before .before .before .loop .inv .room) (count-below (c .before .before .before .before .before)))))
+    (λ w. rw (w .2, w .1 .given .1) (more-lost _))
+    (c .match .came)
+
+settings-requires : tie.Need-settings-requires Inv-loop μ-loop
+settings-requires c κs = c .before .before .pre .room
+
+empty-requires : tie.Need-empty-requires Inv-loop μ-loop
+empty-requires c κs = search needs
+
+loop-holds : tie.Need-loop-holds Inv-loop μ-loop
+loop-holds c =
+    record {
+      usable = c .before .before .before .before .pre;
+      kept = refl;
+      same = ap (λ (s : Settings). s .peers) (c .before .settings .ensures);
+      bound = omega arith;
+      few = omega arith;
+      room = c .empty .ensures .room;
+      rest = rest-first _ _ _ _ (ap (λ (s : Settings). s .peers) (c .before .settings .ensures)) (c .empty .ensures);
+    }
+
+ring-other-requires : tie.Need-ring-other-requires Inv-loop μ-loop
+ring-other-requires c κs = (c .before .before .loop .inv .usable, omega arith)
+
+enum-known-d : tie.Need-enum-known-d Inv-loop μ-loop
+enum-known-d c = search needs
+
+mul-d : tie.Need-mul-d Inv-loop μ-loop
+mul-d c =
+    omega (arith, maxPeers-small, count-below (c .before .before .before .before .before .before .before))
+
+element-set-from-d : tie.Need-element-set-from-d Inv-loop μ-loop
+unfolding maxPeers
+element-set-from-d c = count-below (c .before .before .before .before .before .before .before)
+
+add-list : tie.Need-add-list Inv-loop μ-loop
+add-list c =
+    omega (arith, maxPeers-small, count-below (c .before .before .before .before .before .before .before))
+
+enum-told : tie.Need-enum-told Inv-loop μ-loop
+enum-told c = search needs
+
+add-i : tie.Need-add-i Inv-loop μ-loop
+add-i c = omega arith
+
+loop-less : tie.Need-loop-less Inv-loop μ-loop
+loop-less c = omega arith
+
+loop-again : tie.Need-loop-again Inv-loop μ-loop
+loop-again c =
+    let s = ap (λ (h : Hub). h .settings) (c .before .before .before .ring-other .ensures .0) ∙ but-kept _ _ _ .settings in
+    record {
+      usable = usable-kept _ _ (c .before .before .before .before .before .before .loop .inv .usable) (c .before .before .before .ring-other .kept .0) s;
+      kept = c .before .before .before .ring-other .kept .0 ∙ c .before .before .before .before .before .before .loop .inv .kept;
+      same = c .before .before .before .before .before .before .loop .inv .same ∙ ap (λ (s : Settings). s .peers) (sym s);
+      bound = omega arith;
+      few = omega (arith, more c .few);
+      room = more c .room ∙ c .before .before .before .before .before .before .loop .inv .room;
+      rest = rest-more _ _ _ _ _ _ _ _ _ (c .before .before .before .before .before .loop-test .taken) (c .before .before .before .ring-other .ensures .0) (c .before .before .before .ring-other .ensures .1) (more c) (c .before .before .before .before .before .before .loop .inv .rest);
+    }
+
+same-length : tie.Need-same-length Inv-loop μ-loop
+same-length c = c .before .loop .inv .kept
+
+returns : tie.Need-returns Inv-loop μ-loop
+returns c =
+    let r = rest-last _ _ _ _ _ _ (c .loop-test .left) (c .before .loop .inv .rest) in
+    (r .0, (r .1, counted _ (omega (arith, accepted-facts _ (c .before .loop .inv .usable .numbers) .peers))))
+
+pub ring-others-spec : {M : Type 1} → statement M
+ring-others-spec =
+    tie.close
+    (tie.spec
+    Inv-loop
+    μ-loop
+    settings-requires
+    empty-requires
+    loop-holds
+    ring-other-requires
+    enum-known-d
+    mul-d
+    element-set-from-d
+    add-list
+    enum-told
+    add-i
+    loop-less
+    loop-again
+    same-length
+    returns)

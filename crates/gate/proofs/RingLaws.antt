@@ -1,0 +1,111 @@
+-- Laws of one ring: what a target tells, what one ring leaves, and that a ring keeps the settings and delivers at most one
+-- interrupt.
+use Prim.Native.Nat.{ℕ, _≤_, _<_}
+use mathlib.Core.Bool.{Bool, true, false, cond, _&&_}
+use mathlib.Core.List.{List, [], _∷_}
+use mathlib.Core.Path.{_≡_, refl, ap, _∙_}
+use native.Mathlib.Omega.{arith}
+use borrow.Author.Tests.{ltb-true, lt-ltb, eq-eqb}
+use lib.Dec.{eqb, ltb}
+use lib.ListN.{length, getD}
+use Rattle.common.proofs.TestLaws.{every-false, every-true}
+use Rattle.common.specs.Tests.{every}
+use Rattle.device.proofs.SetUpLaws.{accepted-facts}
+use Rattle.device.specs.declared.Delivery.{Delivery}
+use Rattle.device.specs.declared.Gate.{Gate}
+use Rattle.device.specs.declared.PeerId.{PeerId}
+use Rattle.device.specs.declared.Settings.{Settings}
+use Rattle.device.specs.declared.Target.{Target}
+use Rattle.device.specs.declared.Target.the-variants.{Live, Nobody}
+use Rattle.device.specs.declared.Vector.{Vector}
+use Rattle.device.specs.Ring.{Rung, rung, gateOf, opens, target, deliveryOf, withInterrupt, afterDelivery, ringAt, ring}
+use Rattle.device.specs.SetUp.{accepted}
+use Rattle.device.specs.Sizes.{maxPeers, maxVectors}
+use Rattle.device.specs.World.{Hub, slotAt, entryAt, withSlot, withPeer}
+use Rattle.words.proofs.SlotLaws.{slot-kept}
+use Rattle.words.specs.Layout.{hubOf}
+use Rattle.gate.specs.RingOutcome.{Usable, disarmed}
+
+-- ids and vectors of a usable hub are those of its words
+pub peer-below : (ws : List ℕ) (i : ℕ) → Usable ws → i < hubOf ws .settings .peers → i < maxPeers
+peer-below ws i u l = omega (arith, accepted-facts _ (u .numbers) .peers)
+
+pub vector-below : (ws : List ℕ) (v : ℕ) → Usable ws → v < hubOf ws .settings .vectors → v < maxVectors
+vector-below ws v u l = omega (arith, accepted-facts _ (u .numbers) .vectors)
+
+pub usable-kept : (before after : List ℕ) → Usable before → length after ≡ length before
+    → hubOf after .settings ≡ hubOf before .settings → Usable after
+usable-kept before after u size same =
+    record { room = size ∙ u .room; numbers = ap (λ (s : Settings). accepted s) same ∙ u .numbers }
+
+-- a ring's two parts
+pub apart : (hub : Hub) (ds : List Delivery) {r : Rung} → rung hub ds ≡ r → (hub ≡ r .hub) × (ds ≡ r .deliveries)
+apart hub ds e = (ap (λ (r : Rung). r .hub) e, ap (λ (r : Rung). r .deliveries) e)
+
+-- the tests that a target passes
+abbrev tests : Hub → PeerId → Vector → List Bool
+tests hub t v =
+    ltb (t .0) (hub .settings .peers)
+    ∷ eqb (slotAt hub (t .0) .peer .connected) 1
+    ∷ ltb (v .0) (hub .settings .vectors)
+    ∷ []
+
+-- the delivery of a ring that finds every switch on
+abbrev sent : Hub → PeerId → Vector → List Delivery
+sent hub t v = deliveryOf t v (entryAt (slotAt hub (t .0)) (v .0)) ∷ []
+
+module _ (hub : Hub) (t : PeerId) (v : Vector) where
+  pub nobody : (k : ℕ) → getD (tests hub t v) k true ≡ false → Nobody ≡ target hub t v
+  unfolding target
+  nobody k e = rw (every-false (tests hub t v) k e)
+
+  pub live : t .0 < hub .settings .peers → slotAt hub (t .0) .peer .connected ≡ 1 → v .0 < hub .settings .vectors
+      → Live (gateOf (slotAt hub (t .0) .peer) (entryAt (slotAt hub (t .0)) (v .0))) ≡ target hub t v
+  unfolding target every
+  live known connected few = rw (lt-ltb _ _ known, eq-eqb _ _ connected, lt-ltb _ _ few)
+
+  -- what a ring that finds a gate knows
+  pub found : (gate : Gate) → Live gate ≡ target hub t v → (t .0 < hub .settings .peers) × (v .0 < hub .settings .vectors)
+  unfolding target
+  found gate e = by (every (tests hub t v)) refl
+    where
+      by : (b : Bool) → every (tests hub t v) ≡ b → (t .0 < hub .settings .peers) × (v .0 < hub .settings .vectors)
+      by true f = (ltb-true _ _ (every-true (tests hub t v) f 0), ltb-true _ _ (every-true (tests hub t v) f 2))
+      by false f = let z : _≡_ {A = ℕ} 0 1 = cc in absurd (omega arith)
+
+  -- what a ring leaves: at nobody, and at a gate that is open or not
+  pub unanswered : Nobody ≡ target hub t v → rung hub [] ≡ ring hub t v
+  unfolding ring ringAt
+  unanswered e = rw (← e)
+
+  module _ (gate : Gate) (at : Live gate ≡ target hub t v) where
+    pub answered : (on : Bool) → opens gate ≡ on
+        → rung (cond (on && gate .oneshot) (disarmed hub (t .0)) hub) (cond on (sent hub t v) []) ≡ ring hub t v
+    unfolding ring ringAt afterDelivery
+    answered false o = rw (← at, o)
+    answered true o = rw (← at, o) (ap (λ (h : Hub). rung h (sent hub t v)) (either (gate .oneshot)))
+      where
+        either : (b : Bool)
+            → cond b (disarmed hub (t .0)) hub
+            ≡ withSlot hub (t .0) (cond b (withPeer (slotAt hub (t .0)) (withInterrupt (slotAt hub (t .0) .peer) 0)) (slotAt hub (t .0)))
+        either true = refl
+        either false = slot-kept hub (t .0)
+
+-- rings keep the settings, and deliver at most so many interrupts
+pub record Kept (hub : Hub) (n : ℕ) (r : Rung) : Type 0 where
+  pub settings : r .hub .settings ≡ hub .settings
+  pub few : length (r .deliveries) ≤ n
+
+module _ (hub : Hub) (t : PeerId) (v : Vector) where
+  either-kept : (b : Bool) (h : Hub) (d : Delivery) → h .settings ≡ hub .settings → Kept hub 1 (cond b (rung h (d ∷ [])) (rung hub []))
+  either-kept true h d e = record { settings = e; few = omega arith }
+  either-kept false h d e = record { settings = refl; few = omega arith }
+
+  at-kept : (target : Target) → Kept hub 1 (ringAt hub t v target)
+  unfolding ringAt
+  at-kept Nobody = record { settings = refl; few = omega arith }
+  at-kept (Live gate) = either-kept (opens gate) _ _ refl
+
+  pub ring-kept : Kept hub 1 (ring hub t v)
+  unfolding ring
+  ring-kept = at-kept (target hub t v)
