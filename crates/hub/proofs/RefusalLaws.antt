@@ -12,7 +12,7 @@ use Rattle.common.proofs.TestLaws.{first-none, first-parts}
 use Rattle.device.specs.Call.{Act, call}
 use Rattle.device.specs.Refusal.{Lent, Access, checks, lentTo, accessOf, wrongRegion, shortTable, missing, present, wrongWidth, misaligned, outside, forbidden, isConnected, refusal}
 use Rattle.device.specs.Sections.{sectionOf, somewhere}
-use Rattle.device.specs.SetUp.{accepted}
+use Rattle.device.specs.SetUp.{accepted, total}
 use Rattle.device.specs.Sizes.{maxPeers}
 use Rattle.device.specs.Sound.{sound}
 use Rattle.device.specs.World.{Hub, world, slotAt}
@@ -20,30 +20,34 @@ use Rattle.device.proofs.SetUpLaws.{Accepted, accepted-facts}
 use Rattle.sections.proofs.OutputLaws.{held-fits}
 use Rattle.soundness.proofs.WholeLaws.{sound-numbers, sound-room}
 use Rattle.words.specs.Layout.{hubWords, hubOf}
-use Rattle.hub.specs.Admission.{admission, joiningRows, spaceRows, rangeRows, storeRows, anyWidth, Admitted, Inside, InSection}
+use Rattle.hub.specs.declared.Lending.{Lending}
+use Rattle.hub.specs.Admission.{nothingLent, regionLent, bothLent, admission, joiningRows, spaceRows, rangeRows, storeRows, anyWidth, Admitted, Inside, InSection}
 
-known-caller : (ws : List ℕ) (id : ℕ) → not (sound (hubOf ws)) ≡ false → leb (hubOf ws .settings .peers) id ≡ false → Admitted ws id
-known-caller ws id n l =
+known-caller : (ws : List ℕ) (lent : Lending) (id : ℕ) → not (sound (hubOf ws)) ≡ false →
+    (lent .regional ≡ true → lent .region ≡ total (hubOf ws .settings)) → leb (hubOf ws .settings .peers) id ≡ false →
+    Admitted ws lent id
+known-caller ws lent id n region l =
     let s = not-false _ n in
     let k : id < hubOf ws .settings .peers = leb-false _ _ l in
     record
     { room = sound-room ws s
     ; numbers = sound-numbers (hubOf ws) s
     ; known = k
-    ; slot = omega (arith, accepted-facts (hubOf ws .settings) (sound-numbers (hubOf ws) s) .peers) }
+    ; slot = omega (arith, accepted-facts (hubOf ws .settings) (sound-numbers (hubOf ws) s) .peers)
+    ; region = region }
 
-pub admitted-facts : (ws : List ℕ) (regional : Bool) (region : ℕ) (tabled : Bool) (records id : ℕ) →
-    first (admission (hubOf ws) regional region tabled records id) ≡ 0 → Admitted ws id
-admitted-facts ws regional region tabled records id e =
-    let none = first-none (admission (hubOf ws) regional region tabled records id) refl e in
-    known-caller ws id (none 0) (none 3)
+pub admitted-facts : (ws : List ℕ) (lent : Lending) (id : ℕ) →
+    first (admission (hubOf ws) lent id) ≡ 0 → Admitted ws lent id
+admitted-facts ws lent id e =
+    let none = first-none (admission (hubOf ws) lent id) refl e in
+    known-caller ws lent id (none 0) (λ t. eqb-true _ _ (not-false _ (rw t at (none 1)))) (none 3)
 
 -- the same beside the number itself, as the code promises it
-pub with-facts : (ws : List ℕ) (regional : Bool) (region : ℕ) (tabled : Bool) (records id r : ℕ) →
-    r ≡ first (admission (hubOf ws) regional region tabled records id) →
-    (r ≡ first (admission (hubOf ws) regional region tabled records id)) × (r ≡ 0 → Admitted ws id)
-with-facts ws regional region tabled records id r e =
-    (e, λ z. admitted-facts ws regional region tabled records id (sym e ∙ z))
+pub with-facts : (ws : List ℕ) (lent : Lending) (id r : ℕ) →
+    r ≡ first (admission (hubOf ws) lent id) →
+    (r ≡ first (admission (hubOf ws) lent id)) × (r ≡ 0 → Admitted ws lent id)
+with-facts ws lent id r e =
+    (e, λ z. admitted-facts ws lent id (sym e ∙ z))
 
 -- The table for each kind of access, over the call that makes it.
 by-kind : (h : Hub) (region : List ℕ) (id : ℕ) (act : Act) (lent : Lent) (access : Access) →
@@ -54,47 +58,47 @@ by-kind h region id act lent access l a = rw (l, a)
 -- configuration space
 pub configuration-refusal : (h : Hub) (region : List ℕ) (id : ℕ) (act : Act) (at w : ℕ) →
     lentTo act ≡ Lent.nothing → accessOf act ≡ Access.configuration at w →
-    refusal (world h region) (call id act) ≡ first (admission h false 0 false 0 id ++ spaceRows 256 (anyWidth w) at w)
+    refusal (world h region) (call id act) ≡ first (admission h nothingLent id ++ spaceRows 256 (anyWidth w) at w)
 unfolding first wrongRegion shortTable missing present wrongWidth misaligned outside forbidden isConnected
 configuration-refusal h region id act at w l a = by-kind h region id act Lent.nothing (Access.configuration at w) l a
 
 -- the register region and the MSI-X region
 pub region-refusal : (h : Hub) (region : List ℕ) (id : ℕ) (act : Act) (at w : ℕ) →
     lentTo act ≡ Lent.nothing → accessOf act ≡ Access.registers at w →
-    refusal (world h region) (call id act) ≡ first (admission h false 0 false 0 id ++ spaceRows 4096 (eqb w 4) at w)
+    refusal (world h region) (call id act) ≡ first (admission h nothingLent id ++ spaceRows 4096 (eqb w 4) at w)
 unfolding first wrongRegion shortTable missing present wrongWidth misaligned outside forbidden isConnected
 region-refusal h region id act at w l a = by-kind h region id act Lent.nothing (Access.registers at w) l a
 
 -- the section question
 pub question-refusal : (h : Hub) (region : List ℕ) (id at n : ℕ) →
     refusal (world h region) (call id (Act.question at n))
-    ≡ first (admission h false 0 false 0 id ++ rangeRows (h .settings) at n)
+    ≡ first (admission h nothingLent id ++ rangeRows (h .settings) at n)
 unfolding refusal first lentTo accessOf wrongRegion shortTable missing present wrongWidth misaligned outside forbidden isConnected
 question-refusal h region id at n = refl
 
 -- an access to a space that is not refused
-module _ (ws : List ℕ) (id size : ℕ) (allowed : Bool) (at w : ℕ)
-    (e : first (admission (hubOf ws) false 0 false 0 id ++ spaceRows size allowed at w) ≡ 0) where
-  pub space-admitted : Admitted ws id
+module _ (ws : List ℕ) (lent : Lending) (id size : ℕ) (allowed : Bool) (at w : ℕ)
+    (e : first (admission (hubOf ws) lent id ++ spaceRows size allowed at w) ≡ 0) where
+  pub space-admitted : Admitted ws lent id
   space-admitted =
-      admitted-facts ws false 0 false 0 id
-      (first-parts (admission (hubOf ws) false 0 false 0 id) (spaceRows size allowed at w) refl e .0)
+      admitted-facts ws lent id
+      (first-parts (admission (hubOf ws) lent id) (spaceRows size allowed at w) refl e .0)
 
   pub space-inside : Inside size allowed at w
   space-inside =
       let none =
           first-none (spaceRows size allowed at w) refl
-          (first-parts (admission (hubOf ws) false 0 false 0 id) (spaceRows size allowed at w) refl e .1) in
+          (first-parts (admission (hubOf ws) lent id) (spaceRows size allowed at w) refl e .1) in
       record { width = not-false allowed (none 0); fits = ltb-false _ _ (none 2) }
 
-pub space-facts : (ws : List ℕ) (id size : ℕ) (allowed : Bool) (at w r : ℕ) →
-    r ≡ first (admission (hubOf ws) false 0 false 0 id ++ spaceRows size allowed at w) →
-    (r ≡ first (admission (hubOf ws) false 0 false 0 id ++ spaceRows size allowed at w))
-    × ((r ≡ 0 → Admitted ws id) × (r ≡ 0 → Inside size allowed at w))
-space-facts ws id size allowed at w r e =
+pub space-facts : (ws : List ℕ) (lent : Lending) (id size : ℕ) (allowed : Bool) (at w r : ℕ) →
+    r ≡ first (admission (hubOf ws) lent id ++ spaceRows size allowed at w) →
+    (r ≡ first (admission (hubOf ws) lent id ++ spaceRows size allowed at w))
+    × ((r ≡ 0 → Admitted ws lent id) × (r ≡ 0 → Inside size allowed at w))
+space-facts ws lent id size allowed at w r e =
     (e
-    , (λ z. space-admitted ws id size allowed at w (sym e ∙ z)
-    , λ z. space-inside ws id size allowed at w (sym e ∙ z)))
+    , (λ z. space-admitted ws lent id size allowed at w (sym e ∙ z)
+    , λ z. space-inside ws lent id size allowed at w (sym e ∙ z)))
 
 -- the widths of configuration space
 pub any-width : (w : ℕ) → anyWidth w ≡ true → (0 < w) × (w ≤ 4)
@@ -115,69 +119,67 @@ unfolding refusal first lentTo accessOf wrongRegion shortTable missing present w
 connect-refusal h region id = refl
 
 pub joining-facts : (ws : List ℕ) (id r : ℕ) → r ≡ first (joiningRows (hubOf ws) id) →
-    (r ≡ first (joiningRows (hubOf ws) id)) × (r ≡ 0 → Admitted ws id)
+    (r ≡ first (joiningRows (hubOf ws) id)) × (r ≡ 0 → Admitted ws nothingLent id)
 joining-facts ws id r e =
     (e
     , λ z.
     let none = first-none (joiningRows (hubOf ws) id) refl (sym e ∙ z) in
-    known-caller ws id (none 0) (none 1))
+    known-caller ws nothingLent id (none 0) (λ t. let z : _≡_ {A = ℕ} 0 1 = cc in absurd (omega arith)) (none 1))
 
 -- a range of the shared region that is not refused
-module _ (ws : List ℕ) (regional : Bool) (region id at n r : ℕ)
-    (e : r ≡ first (admission (hubOf ws) regional region false 0 id ++ rangeRows (hubOf ws .settings) at n)) where
-  range-inside : r ≡ 0 → InSection (hubOf ws .settings) regional region at n
+module _ (ws : List ℕ) (lent : Lending) (id at n r : ℕ)
+    (e : r ≡ first (admission (hubOf ws) lent id ++ rangeRows (hubOf ws .settings) at n)) where
+  range-inside : r ≡ 0 → InSection (hubOf ws .settings) at n
   range-inside z =
-      let parts = first-parts (admission (hubOf ws) regional region false 0 id) (rangeRows (hubOf ws .settings) at n) refl (sym e ∙ z) in
-      let caller = first-none (admission (hubOf ws) regional region false 0 id) refl (parts .0) in
+      let parts = first-parts (admission (hubOf ws) lent id) (rangeRows (hubOf ws .settings) at n) refl (sym e ∙ z) in
       let range = first-none (rangeRows (hubOf ws .settings) at n) refl (parts .1) in
       record
       { some = positive-length (range 0)
-      ; fits = held-fits (hubOf ws .settings) at n (not-false (somewhere (sectionOf (hubOf ws .settings) at n)) (range 1))
-      ; lent = λ t. eqb-true _ _ (not-false _ (rw t at (caller 1))) }
+      ; fits = held-fits (hubOf ws .settings) at n (not-false (somewhere (sectionOf (hubOf ws .settings) at n)) (range 1)) }
     where
       positive-length : eqb n 0 ≡ false → 0 < n
       positive-length f = let h : n ≡ 0 → ⊥ = eqb-false _ _ f in omega arith
 
   pub range-facts :
-      (r ≡ first (admission (hubOf ws) regional region false 0 id ++ rangeRows (hubOf ws .settings) at n))
-      × ((r ≡ 0 → Admitted ws id) × (r ≡ 0 → InSection (hubOf ws .settings) regional region at n))
+      (r ≡ first (admission (hubOf ws) lent id ++ rangeRows (hubOf ws .settings) at n))
+      × ((r ≡ 0 → Admitted ws lent id) × (r ≡ 0 → InSection (hubOf ws .settings) at n))
   range-facts =
       (e
       , (λ z.
-      admitted-facts ws regional region false 0 id
-      (first-parts (admission (hubOf ws) regional region false 0 id) (rangeRows (hubOf ws .settings) at n) refl (sym e ∙ z) .0)
+      admitted-facts ws lent id
+      (first-parts (admission (hubOf ws) lent id) (rangeRows (hubOf ws .settings) at n) refl (sym e ∙ z) .0)
       , range-inside))
 
 -- loads and stores, which are lent the region
 pub load-refusal : (h : Hub) (region : List ℕ) (id at n : ℕ) →
     refusal (world h region) (call id (Act.load at n))
-    ≡ first (admission h true (length region) false 0 id ++ rangeRows (h .settings) at n)
+    ≡ first (admission h (regionLent (length region)) id ++ rangeRows (h .settings) at n)
 unfolding refusal first lentTo accessOf wrongRegion shortTable missing present wrongWidth misaligned outside forbidden isConnected
 load-refusal h region id at n = refl
 
 pub store-refusal : (h : Hub) (region : List ℕ) (id at : ℕ) (bs : List ℕ) →
     refusal (world h region) (call id (Act.store at bs))
     ≡ first
-    ((admission h true (length region) false 0 id ++ rangeRows (h .settings) at (length bs))
+    ((admission h (regionLent (length region)) id ++ rangeRows (h .settings) at (length bs))
     ++ storeRows (h .settings) id at (length bs))
 unfolding refusal first lentTo accessOf wrongRegion shortTable missing present wrongWidth misaligned outside forbidden isConnected
 store-refusal h region id at bs = refl
 
 -- the last check of a store comes after those of its range
-pub store-facts : (ws : List ℕ) (region id at n r : ℕ) →
+pub store-facts : (ws : List ℕ) (lent : Lending) (id at n r : ℕ) →
     r
     ≡ first
-    ((admission (hubOf ws) true region false 0 id ++ rangeRows (hubOf ws .settings) at n) ++ storeRows (hubOf ws .settings) id at n) →
+    ((admission (hubOf ws) lent id ++ rangeRows (hubOf ws .settings) at n) ++ storeRows (hubOf ws .settings) id at n) →
     (r
     ≡ first
-    ((admission (hubOf ws) true region false 0 id ++ rangeRows (hubOf ws .settings) at n) ++ storeRows (hubOf ws .settings) id at n))
-    × ((r ≡ 0 → Admitted ws id) × (r ≡ 0 → InSection (hubOf ws .settings) true region at n))
-store-facts ws region id at n r e =
-    let range : r ≡ 0 → 0 ≡ first (admission (hubOf ws) true region false 0 id ++ rangeRows (hubOf ws .settings) at n) =
+    ((admission (hubOf ws) lent id ++ rangeRows (hubOf ws .settings) at n) ++ storeRows (hubOf ws .settings) id at n))
+    × ((r ≡ 0 → Admitted ws lent id) × (r ≡ 0 → InSection (hubOf ws .settings) at n))
+store-facts ws lent id at n r e =
+    let range : r ≡ 0 → 0 ≡ first (admission (hubOf ws) lent id ++ rangeRows (hubOf ws .settings) at n) =
         λ z.
         sym
-        (first-parts (admission (hubOf ws) true region false 0 id ++ rangeRows (hubOf ws .settings) at n)
+        (first-parts (admission (hubOf ws) lent id ++ rangeRows (hubOf ws .settings) at n)
         (storeRows (hubOf ws .settings) id at n) refl (sym e ∙ z) .0) in
     (e
-    , (λ z. range-facts ws true region id at n 0 (range z) .1 .0 refl
-    , λ z. range-facts ws true region id at n 0 (range z) .1 .1 refl))
+    , (λ z. range-facts ws lent id at n 0 (range z) .1 .0 refl
+    , λ z. range-facts ws lent id at n 0 (range z) .1 .1 refl))

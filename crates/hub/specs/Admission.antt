@@ -1,7 +1,7 @@
 -- The checks of 'When the hub says no' in the parts that the code makes: those of the hub, of what is lent and of the id, and
 -- those of an access. proofs/RefusalLaws.antt shows that together they are the table.
 use Prim.Native.Nat.{ℕ, _+_, _%_, _<_, _≤_}
-use mathlib.Core.Bool.{Bool, true, not, _&&_, _||_}
+use mathlib.Core.Bool.{Bool, true, false, not, _&&_, _||_}
 use mathlib.Core.List.{List, [], _∷_}
 use mathlib.Core.Path.{_≡_}
 use lib.Dec.{eqb, leb, ltb}
@@ -14,13 +14,23 @@ use Rattle.device.specs.Sizes.{maxPeers}
 use Rattle.device.specs.Sound.{sound}
 use Rattle.device.specs.World.{Hub, slotAt}
 use Rattle.words.specs.Layout.{hubWords, hubOf}
+use Rattle.hub.specs.declared.Lending.{Lending}
 
--- whether the region is lent, and its length; whether a delivery table is lent, and its records
-abbrev pub admission : Hub → Bool → ℕ → Bool → ℕ → ℕ → List Row
-admission hub regional region tabled records who =
+-- what is lent, as the code passes it: whether the region is, and its length; whether a delivery table is, and its records
+abbrev pub nothingLent : Lending
+nothingLent = record { regional = false; region = 0; tabled = false; records = 0 }
+
+abbrev pub regionLent : ℕ → Lending
+regionLent region = record { regional = true; region = region; tabled = false; records = 0 }
+
+abbrev pub bothLent : ℕ → ℕ → Lending
+bothLent region records = record { regional = true; region = region; tabled = true; records = records }
+
+abbrev pub admission : Hub → Lending → ℕ → List Row
+admission hub lent who =
     row 10 (not (sound hub))
-    ∷ row 2 (regional && not (eqb region (total (hub .settings))))
-    ∷ row 11 (tabled && ltb records (hub .settings .peers))
+    ∷ row 2 (lent .regional && not (eqb (lent .region) (total (hub .settings))))
+    ∷ row 11 (lent .tabled && ltb (lent .records) (hub .settings .peers))
     ∷ row 3 (leb (hub .settings .peers) who)
     ∷ row 4 (not (eqb (slotAt hub who .peer .connected) 1))
     ∷ []
@@ -50,21 +60,20 @@ abbrev pub storeRows : Settings → ℕ → ℕ → ℕ → List Row
 storeRows s who offset length = row 9 (not (mayStore who (sectionOf s offset length))) ∷ []
 
 -- what is known of a caller that these checks let pass, and of its access to a space
-pub record Admitted (ws : List ℕ) (id : ℕ) : Type 0 where
+pub record Admitted (ws : List ℕ) (lent : Lending) (id : ℕ) : Type 0 where
   pub room : length ws ≡ hubWords
   pub numbers : accepted (hubOf ws .settings) ≡ true
   pub known : id < hubOf ws .settings .peers
   pub slot : id < maxPeers
+  pub region : lent .regional ≡ true → lent .region ≡ total (hubOf ws .settings)
 
 pub record Inside (size : ℕ) (allowed : Bool) (at w : ℕ) : Type 0 where
   pub width : allowed ≡ true
   pub fits : at + w ≤ size
 
--- a range of the shared region, and the region's length where it is lent
-pub record InSection (s : Settings) (regional : Bool) (region offset length : ℕ) : Type 0 where
+pub record InSection (s : Settings) (offset length : ℕ) : Type 0 where
   pub some : 0 < length
   pub fits : offset + length ≤ total s
-  pub lent : regional ≡ true → region ≡ total s
 
 -- what is known of a set-up that is accepted
 pub record SetUpFacts (words : ℕ) (s : Settings) : Type 0 where

@@ -10,7 +10,7 @@ ghost use Rattle.device.specs.Call.{call};
 ghost use Rattle.device.specs.Call as Call;
 ghost use Rattle.device.specs.SetUp.{setUpRefusal};
 ghost use Rattle.words.specs.Layout.{hubWords, hubOf};
-ghost use Rattle.hub.specs.Admission.{joiningRows, Admitted, SetUpFacts};
+ghost use Rattle.hub.specs.Admission.{nothingLent, joiningRows, Admitted, SetUpFacts};
 ghost use Rattle.hub.specs.Promises.{Changes, numbers, SetsUp};
 
 // 10, 1 and 2 for a set-up: the words' length, the numbers, the region's length.
@@ -82,7 +82,7 @@ pub fn set_up(
 // 10, 3 and 5.
 fn joining_refusal(hub: &[u32], id: u64) -> u32
     ensures is { λ r. ⌜ r ≡ first (joiningRows (hubOf (now (hub .entry))) id) ⌝ }
-    ensures facts { λ r. ⌜ (r ≡ 0 → Admitted (now (hub .entry)) id) ⌝ }
+    ensures facts { λ r. ⌜ (r ≡ 0 → Admitted (now (hub .entry)) nothingLent id) ⌝ }
 {
     let ok = soundness::sound(hub);
     if !ok {

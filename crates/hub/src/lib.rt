@@ -15,3 +15,11 @@ pub use shared::load;
 pub use shared::store;
 pub use writes::configuration_write;
 pub use writes::msix_write;
+
+// What the host lends to a call: whether the region is lent, and its length; whether a delivery table is, and its records.
+struct Lending {
+    regional: bool,
+    region: u64,
+    tabled: bool,
+    records: u64,
+}

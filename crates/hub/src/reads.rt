@@ -12,7 +12,8 @@ pub fn configuration_read(hub: &[u32], id: u64, offset: u64, width: u64) -> Repl
     ensures { λ r. ⌜ Answers (now (hub .entry)) (call id (Call.Act.configurationRead offset width)) r ⌝ }
 {
     let allowed = (width == 1) | (width == 2) | (width == 4);
-    let number = refusals::space_refusal(hub, id, 256, allowed, offset, width);
+    let lent = refusals::nothing_lent();
+    let number = refusals::space_refusal(hub, lent, id, 256, allowed, offset, width);
     if number != 0 {
         return refusals::answered(number);
     }
@@ -28,7 +29,8 @@ pub fn configuration_read(hub: &[u32], id: u64, offset: u64, width: u64) -> Repl
 pub fn register_read(hub: &[u32], id: u64, offset: u64, width: u64) -> Reply
     ensures { λ r. ⌜ Answers (now (hub .entry)) (call id (Call.Act.registerRead offset width)) r ⌝ }
 {
-    let number = refusals::space_refusal(hub, id, 4096, width == 4, offset, width);
+    let lent = refusals::nothing_lent();
+    let number = refusals::space_refusal(hub, lent, id, 4096, width == 4, offset, width);
     if number != 0 {
         return refusals::answered(number);
     }
@@ -44,7 +46,8 @@ pub fn register_read(hub: &[u32], id: u64, offset: u64, width: u64) -> Reply
 pub fn msix_read(hub: &[u32], id: u64, offset: u64, width: u64) -> Reply
     ensures { λ r. ⌜ Answers (now (hub .entry)) (call id (Call.Act.msixRead offset width)) r ⌝ }
 {
-    let number = refusals::space_refusal(hub, id, 4096, width == 4, offset, width);
+    let lent = refusals::nothing_lent();
+    let number = refusals::space_refusal(hub, lent, id, 4096, width == 4, offset, width);
     if number != 0 {
         return refusals::answered(number);
     }
@@ -82,7 +85,8 @@ fn unanswered(number: u32) -> SectionReply
 pub fn section_question(hub: &[u32], id: u64, offset: u64, length: u64) -> SectionReply
     ensures { λ r. ⌜ AnswersQuestion (now (hub .entry)) (call id (Call.Act.question offset length)) r ⌝ }
 {
-    let number = refusals::range_refusal(hub, false, 0, id, offset, length);
+    let lent = refusals::nothing_lent();
+    let number = refusals::range_refusal(hub, lent, id, offset, length);
     if number != 0 {
         return unanswered(number);
     }

@@ -1,4 +1,5 @@
 // The refusals' numbers, in the order of the rules.
+use super::Lending;
 use device::{Reply, Settings};
 
 ghost use mathlib.Core.Path.{_≡_};
@@ -8,7 +9,7 @@ ghost use Prim.Native.Nat.{_≤_, _<_};
 ghost use Rattle.common.specs.Tests.{first};
 ghost use Rattle.device.specs.SetUp.{accepted};
 ghost use Rattle.words.specs.Layout.{hubOf};
-ghost use Rattle.hub.specs.Admission.{admission, spaceRows, rangeRows, storeRows, Admitted, Inside, InSection};
+ghost use Rattle.hub.specs.Admission.{nothingLent, regionLent, bothLent, admission, spaceRows, rangeRows, storeRows, Admitted, Inside, InSection};
 
 // An answer that reads nothing: 0 or the refusal's number, with value 0.
 pub fn answered(number: u32) -> Reply
@@ -17,10 +18,43 @@ pub fn answered(number: u32) -> Reply
     Reply { number, value: 0 }
 }
 
+pub fn nothing_lent() -> Lending
+    ensures { λ r. ⌜ r ≡ nothingLent ⌝ }
+{
+    Lending {
+        regional: false,
+        region: 0,
+        tabled: false,
+        records: 0,
+    }
+}
+
+pub fn region_lent(region: u64) -> Lending
+    ensures { λ r. ⌜ r ≡ regionLent region ⌝ }
+{
+    Lending {
+        regional: true,
+        region,
+        tabled: false,
+        records: 0,
+    }
+}
+
+pub fn both_lent(region: u64, records: u64) -> Lending
+    ensures { λ r. ⌜ r ≡ bothLent region records ⌝ }
+{
+    Lending {
+        regional: true,
+        region,
+        tabled: true,
+        records,
+    }
+}
+
 // 10, 2, 11, 3 and 4: the hub, what is lent, and the id.
-pub fn admitted(hub: &[u32], regional: bool, region: u64, tabled: bool, records: u64, id: u64) -> u32
-    ensures is { λ r. ⌜ r ≡ first (admission (hubOf (now (hub .entry))) regional region tabled records id) ⌝ }
-    ensures facts { λ r. ⌜ (r ≡ 0 → Admitted (now (hub .entry)) id) ⌝ }
+pub fn admitted(hub: &[u32], lent: Lending, id: u64) -> u32
+    ensures is { λ r. ⌜ r ≡ first (admission (hubOf (now (hub .entry))) lent id) ⌝ }
+    ensures facts { λ r. ⌜ (r ≡ 0 → Admitted (now (hub .entry)) lent id) ⌝ }
 {
     let ok = soundness::sound(hub);
     if !ok {
@@ -28,11 +62,11 @@ pub fn admitted(hub: &[u32], regional: bool, region: u64, tabled: bool, records:
     }
     let s = words::settings(hub);
     let total = soundness::total(s);
-    let wrong = regional & !(region == total);
+    let wrong = lent.regional & !(lent.region == total);
     if wrong {
         return 2;
     }
-    let short = tabled & (records < s.peers);
+    let short = lent.tabled & (lent.records < s.peers);
     if short {
         return 11;
     }
@@ -63,14 +97,14 @@ fn space(size: u64, allowed: bool, offset: u64, width: u64) -> u32
     0
 }
 
-// A call that is lent nothing, with an access to a space.
-pub fn space_refusal(hub: &[u32], id: u64, size: u64, allowed: bool, offset: u64, width: u64) -> u32
+// A call with an access to a space.
+pub fn space_refusal(hub: &[u32], lent: Lending, id: u64, size: u64, allowed: bool, offset: u64, width: u64) -> u32
     requires { ⌜ (4 ≤ size) × (allowed ≡ true → (0 < width) × (width ≤ 4)) ⌝ }
-    ensures is { λ r. ⌜ r ≡ first (admission (hubOf (now (hub .entry))) false 0 false 0 id ++ spaceRows size allowed offset width) ⌝ }
-    ensures caller { λ r. ⌜ (r ≡ 0 → Admitted (now (hub .entry)) id) ⌝ }
+    ensures is { λ r. ⌜ r ≡ first (admission (hubOf (now (hub .entry))) lent id ++ spaceRows size allowed offset width) ⌝ }
+    ensures caller { λ r. ⌜ (r ≡ 0 → Admitted (now (hub .entry)) lent id) ⌝ }
     ensures access { λ r. ⌜ (r ≡ 0 → Inside size allowed offset width) ⌝ }
 {
-    let number = admitted(hub, false, 0, false, 0, id);
+    let number = admitted(hub, lent, id);
     if number != 0 {
         return number;
     }
@@ -92,13 +126,13 @@ pub fn range(s: Settings, offset: u64, length: u64) -> u32
     0
 }
 
-// A call with a range of the shared region, lent or not.
-pub fn range_refusal(hub: &[u32], regional: bool, region: u64, id: u64, offset: u64, length: u64) -> u32
-    ensures is { λ r. ⌜ r ≡ first (admission (hubOf (now (hub .entry))) regional region false 0 id ++ rangeRows (hubOf (now (hub .entry)) .settings) offset length) ⌝ }
-    ensures caller { λ r. ⌜ (r ≡ 0 → Admitted (now (hub .entry)) id) ⌝ }
-    ensures access { λ r. ⌜ (r ≡ 0 → InSection (hubOf (now (hub .entry)) .settings) regional region offset length) ⌝ }
+// A call with a range of the shared region.
+pub fn range_refusal(hub: &[u32], lent: Lending, id: u64, offset: u64, length: u64) -> u32
+    ensures is { λ r. ⌜ r ≡ first (admission (hubOf (now (hub .entry))) lent id ++ rangeRows (hubOf (now (hub .entry)) .settings) offset length) ⌝ }
+    ensures caller { λ r. ⌜ (r ≡ 0 → Admitted (now (hub .entry)) lent id) ⌝ }
+    ensures access { λ r. ⌜ (r ≡ 0 → InSection (hubOf (now (hub .entry)) .settings) offset length) ⌝ }
 {
-    let number = admitted(hub, regional, region, false, 0, id);
+    let number = admitted(hub, lent, id);
     if number != 0 {
         return number;
     }
@@ -106,12 +140,12 @@ pub fn range_refusal(hub: &[u32], regional: bool, region: u64, id: u64, offset: 
 }
 
 // The same with 9, for a range that is to be stored to.
-pub fn store_refusal(hub: &[u32], region: u64, id: u64, offset: u64, length: u64) -> u32
-    ensures is { λ r. ⌜ r ≡ first ((admission (hubOf (now (hub .entry))) true region false 0 id ++ rangeRows (hubOf (now (hub .entry)) .settings) offset length) ++ storeRows (hubOf (now (hub .entry)) .settings) id offset length) ⌝ }
-    ensures caller { λ r. ⌜ (r ≡ 0 → Admitted (now (hub .entry)) id) ⌝ }
-    ensures access { λ r. ⌜ (r ≡ 0 → InSection (hubOf (now (hub .entry)) .settings) true region offset length) ⌝ }
+pub fn store_refusal(hub: &[u32], lent: Lending, id: u64, offset: u64, length: u64) -> u32
+    ensures is { λ r. ⌜ r ≡ first ((admission (hubOf (now (hub .entry))) lent id ++ rangeRows (hubOf (now (hub .entry)) .settings) offset length) ++ storeRows (hubOf (now (hub .entry)) .settings) id offset length) ⌝ }
+    ensures caller { λ r. ⌜ (r ≡ 0 → Admitted (now (hub .entry)) lent id) ⌝ }
+    ensures access { λ r. ⌜ (r ≡ 0 → InSection (hubOf (now (hub .entry)) .settings) offset length) ⌝ }
 {
-    let number = range_refusal(hub, true, region, id, offset, length);
+    let number = range_refusal(hub, lent, id, offset, length);
     if number != 0 {
         return number;
     }

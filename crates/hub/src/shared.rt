@@ -12,7 +12,8 @@ ghost use Rattle.hub.specs.Promises.{Loads, Stores};
 pub fn load(hub: &[u32], region: &[u8], id: u64, offset: u64, buffer: &mut [u8]) -> Reply
     ensures { λ r. ⌜ Loads (now (hub .entry)) (now (region .entry)) (now (buffer .entry)) (now (buffer .exit)) (call id (Call.Act.load offset (length (now (buffer .entry))))) r ⌝ }
 {
-    let number = refusals::range_refusal(hub, true, region.len() as u64, id, offset, buffer.len() as u64);
+    let lent = refusals::region_lent(region.len() as u64);
+    let number = refusals::range_refusal(hub, lent, id, offset, buffer.len() as u64);
     if number != 0 {
         return refusals::answered(number);
     }
@@ -23,7 +24,8 @@ pub fn load(hub: &[u32], region: &[u8], id: u64, offset: u64, buffer: &mut [u8])
 pub fn store(hub: &[u32], region: &mut [u8], id: u64, offset: u64, stored: &[u8]) -> Reply
     ensures { λ r. ⌜ Stores (now (hub .entry)) (now (region .entry)) (now (region .exit)) (call id (Call.Act.store offset (now (stored .entry)))) r ⌝ }
 {
-    let number = refusals::store_refusal(hub, region.len() as u64, id, offset, stored.len() as u64);
+    let lent = refusals::region_lent(region.len() as u64);
+    let number = refusals::store_refusal(hub, lent, id, offset, stored.len() as u64);
     if number != 0 {
         return refusals::answered(number);
     }

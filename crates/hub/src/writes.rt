@@ -11,7 +11,8 @@ pub fn configuration_write(hub: &mut [u32], id: u64, offset: u64, width: u64, va
     ensures { λ r. ⌜ Changes (now (hub .entry)) (now (hub .exit)) (call id (Call.Act.configurationWrite offset width value)) r ⌝ }
 {
     let allowed = (width == 1) | (width == 2) | (width == 4);
-    let number = refusals::space_refusal(hub, id, 256, allowed, offset, width);
+    let lent = refusals::nothing_lent();
+    let number = refusals::space_refusal(hub, lent, id, 256, allowed, offset, width);
     if number != 0 {
         return refusals::answered(number);
     }
@@ -25,7 +26,8 @@ pub fn configuration_write(hub: &mut [u32], id: u64, offset: u64, width: u64, va
 pub fn msix_write(hub: &mut [u32], id: u64, offset: u64, width: u64, value: u32) -> Reply
     ensures { λ r. ⌜ Changes (now (hub .entry)) (now (hub .exit)) (call id (Call.Act.msixWrite offset width value)) r ⌝ }
 {
-    let number = refusals::space_refusal(hub, id, 4096, width == 4, offset, width);
+    let lent = refusals::nothing_lent();
+    let number = refusals::space_refusal(hub, lent, id, 4096, width == 4, offset, width);
     if number != 0 {
         return refusals::answered(number);
     }

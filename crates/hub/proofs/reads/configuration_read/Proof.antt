@@ -5,15 +5,17 @@ use borrow.Author.Needs.{needs}
 use Rattle.device.specs.Call.{Act}
 use Rattle.device.specs.Effect.{effect}
 use Rattle.device.specs.Refusal.{lentTo, accessOf}
-use Rattle.hub.specs.Admission.{anyWidth}
 use Rattle.words.specs.Layout.{hubOf}
 use Rattle.hub.proofs.RefusalLaws.{configuration-refusal, any-width}
 use Rattle.hub.proofs.ReplyLaws.{reply-refused, reply-accepted}
 use Rattle.hub.proofs.reads.configuration_read.Statement.{statement}
 use Rattle.hub.proofs.reads.configuration_read.Tie as tie
 
+nothing-lent-requires : tie.Need-nothing-lent-requires
+nothing-lent-requires c κs = search needs
+
 space-refusal-requires : tie.Need-space-refusal-requires
-space-refusal-requires c κs = (omega arith, any-width (c .before .args .width))
+space-refusal-requires c κs = (omega arith, any-width (c .before .before .args .width))
 
 answered-requires : tie.Need-answered-requires
 answered-requires c κs = search needs
@@ -21,50 +23,49 @@ answered-requires c κs = search needs
 returns : tie.Need-returns
 unfolding lentTo accessOf
 returns c =
-    let a = c .before .before .before .before .args in
+    let a = c .before .before .before .before .before .args in
+    let n = rw (c .before .before .before .nothing-lent .ensures) at (c .before .before .space-refusal .ensures .0) in
     λ region.
     c .answered .ensures
     ∙ reply-refused _ _ (c .before .before .space-refusal .result)
-    (configuration-refusal (hubOf (a .hub .now)) region (a .id) (Act.configurationRead (a .offset) (a .width)) (a .offset) (a .width) refl refl ∙ sym (c .before .before .space-refusal .ensures .0)) (c .before .if1 .taken)
+    (configuration-refusal (hubOf (a .hub .now)) region (a .id) (Act.configurationRead (a .offset) (a .width)) (a .offset) (a .width) refl refl ∙ sym n) (c .before .if1 .taken)
 
 settings-requires : tie.Need-settings-requires
-settings-requires c κs =
-    let a = c .before .before .before .args in
-    c .before .space-refusal .ensures .1 .0 (c .if1 .left) .room
+settings-requires c κs = c .before .space-refusal .ensures .1 .0 (c .if1 .left) .room
 
 peer-requires : tie.Need-peer-requires
 peer-requires c κs =
-    let a = c .before .before .before .before .args in
     let f = c .before .before .space-refusal .ensures .1 .0 (c .before .if1 .left) in
     (f .room, f .slot)
 
 read-requires : tie.Need-read-requires
 read-requires c κs =
-    let a = c .before .before .before .before .before .args in
     let f = c .before .before .before .space-refusal .ensures .1 .1 (c .before .before .if1 .left) in
-    (any-width (a .width) (f .width) .1, f .fits)
+    (any-width (c .before .before .before .before .before .before .args .width) (f .width) .1, f .fits)
 
-cast-t15 : tie.Need-cast-t15
-cast-t15 c = search needs
+cast-t16 : tie.Need-cast-t16
+cast-t16 c = search needs
 
 returns-2 : tie.Need-returns-2
 unfolding lentTo accessOf effect
 returns-2 c =
-    let a = c .before .before .before .before .before .before .args in
+    let a = c .before .before .before .before .before .before .before .args in
+    let n = rw (c .before .before .before .before .before .nothing-lent .ensures) at (c .before .before .before .before .space-refusal .ensures .0) in
     λ region.
     reply-accepted _ _ (c .read .result)
-    (configuration-refusal (hubOf (a .hub .now)) region (a .id) (Act.configurationRead (a .offset) (a .width)) (a .offset) (a .width) refl refl ∙ sym (c .before .before .before .before .space-refusal .ensures .0) ∙ c .before .before .before .if1 .left)
+    (configuration-refusal (hubOf (a .hub .now)) region (a .id) (Act.configurationRead (a .offset) (a .width)) (a .offset) (a .width) refl refl ∙ sym n ∙ c .before .before .before .if1 .left)
     (rw (c .read .ensures .0, c .before .before .settings .ensures, c .before .peer .ensures))
 
 pub configuration-read-spec : {M : Type 1} → statement M
 configuration-read-spec =
     tie.close
     (tie.spec
+    nothing-lent-requires
     space-refusal-requires
     answered-requires
     returns
     settings-requires
     peer-requires
     read-requires
-    cast-t15
+    cast-t16
     returns-2)

@@ -7,16 +7,19 @@ use borrow.Author.Tests.{eqb-true, not-true, not-false, ltb-true}
 use Rattle.device.proofs.SetUpLaws.{accepted-facts}
 use Rattle.device.specs.Call.{Act}
 use Rattle.device.specs.Effect.{effect}
-use Rattle.device.specs.Refusal.{lentTo, accessOf}
 use Rattle.device.specs.Msix.{msixRead, tableWord, inTable}
+use Rattle.device.specs.Refusal.{lentTo, accessOf}
 use Rattle.words.specs.Layout.{hubOf}
 use Rattle.hub.proofs.RefusalLaws.{region-refusal}
 use Rattle.hub.proofs.ReplyLaws.{reply-refused, reply-accepted}
 use Rattle.hub.proofs.reads.msix_read.Statement.{statement}
 use Rattle.hub.proofs.reads.msix_read.Tie as tie
 
+nothing-lent-requires : tie.Need-nothing-lent-requires
+nothing-lent-requires c κs = search needs
+
 space-refusal-requires : tie.Need-space-refusal-requires
-space-refusal-requires c κs = (omega arith, λ e. let h = eqb-true (c .before .args .width) 4 e in omega arith)
+space-refusal-requires c κs = (omega arith, λ e. let h = eqb-true (c .before .before .args .width) 4 e in omega arith)
 
 answered-requires : tie.Need-answered-requires
 answered-requires c κs = search needs
@@ -24,11 +27,12 @@ answered-requires c κs = search needs
 returns : tie.Need-returns
 unfolding lentTo accessOf
 returns c =
-    let a = c .before .before .before .before .args in
+    let a = c .before .before .before .before .before .args in
+    let n = rw (c .before .before .before .nothing-lent .ensures) at (c .before .before .space-refusal .ensures .0) in
     λ region.
     c .answered .ensures
     ∙ reply-refused _ _ (c .before .before .space-refusal .result)
-    (region-refusal (hubOf (a .hub .now)) region (a .id) (Act.msixRead (a .offset) (a .width)) (a .offset) (a .width) refl refl ∙ sym (c .before .before .space-refusal .ensures .0)) (c .before .if1 .taken)
+    (region-refusal (hubOf (a .hub .now)) region (a .id) (Act.msixRead (a .offset) (a .width)) (a .offset) (a .width) refl refl ∙ sym n) (c .before .if1 .taken)
 
 peer-requires : tie.Need-peer-requires
 peer-requires c κs =
@@ -41,11 +45,12 @@ memory-on-requires c κs = search needs
 returns-2 : tie.Need-returns-2
 unfolding lentTo accessOf effect msixRead
 returns-2 c =
-    let a = c .before .before .before .before .before .before .args in
+    let a = c .before .before .before .before .before .before .before .args in
+    let n = rw (c .before .before .before .before .before .nothing-lent .ensures) at (c .before .before .before .before .space-refusal .ensures .0) in
     let off = rw (c .before .memory-on .ensures, c .before .before .peer .ensures) at (not-true (c .before .memory-on .result) (c .if2 .taken)) in
     λ region.
     reply-accepted _ _ 0xFFFFFFFF
-    (region-refusal (hubOf (a .hub .now)) region (a .id) (Act.msixRead (a .offset) (a .width)) (a .offset) (a .width) refl refl ∙ sym (c .before .before .before .before .space-refusal .ensures .0) ∙ c .before .before .before .if1 .left)
+    (region-refusal (hubOf (a .hub .now)) region (a .id) (Act.msixRead (a .offset) (a .width)) (a .offset) (a .width) refl refl ∙ sym n ∙ c .before .before .before .if1 .left)
     (rw off)
 
 settings-requires : tie.Need-settings-requires
@@ -57,18 +62,19 @@ in-table-requires c κs = search needs
 returns-3 : tie.Need-returns-3
 unfolding lentTo accessOf effect msixRead tableWord
 returns-3 c =
-    let a = c .before .before .before .before .before .before .before .before .before .args in
+    let a = c .before .before .before .before .before .before .before .before .before .before .args in
+    let n = rw (c .before .before .before .before .before .before .before .before .nothing-lent .ensures) at (c .before .before .before .before .before .before .before .space-refusal .ensures .0) in
     let on = rw (c .before .before .before .before .memory-on .ensures, c .before .before .before .before .before .peer .ensures) at (not-false (c .before .before .before .before .memory-on .result) (c .before .before .before .if2 .left)) in
     let out = rw (c .before .in-table .ensures, c .before .before .settings .ensures) at (not-true (c .before .in-table .result) (c .if3 .taken)) in
     λ region.
     reply-accepted _ _ 0
-    (region-refusal (hubOf (a .hub .now)) region (a .id) (Act.msixRead (a .offset) (a .width)) (a .offset) (a .width) refl refl ∙ sym (c .before .before .before .before .before .before .before .space-refusal .ensures .0) ∙ c .before .before .before .before .before .before .if1 .left)
+    (region-refusal (hubOf (a .hub .now)) region (a .id) (Act.msixRead (a .offset) (a .width)) (a .offset) (a .width) refl refl ∙ sym n ∙ c .before .before .before .before .before .before .if1 .left)
     (rw (on, out))
 
 entry-requires : tie.Need-entry-requires
 unfolding inTable
 entry-requires c κs =
-    let a = c .before .before .before .before .before .before .before .before .before .args in
+    let a = c .before .before .before .before .before .before .before .before .before .before .args in
     let f = c .before .before .before .before .before .before .before .space-refusal .ensures .1 .0 (c .before .before .before .before .before .before .if1 .left) in
     let inside = rw (c .before .in-table .ensures, c .before .before .settings .ensures) at (not-false (c .before .in-table .result) (c .if3 .left)) in
     let v : a .offset / 16 < hubOf (a .hub .now) .settings .vectors = ltb-true _ _ inside in
@@ -80,18 +86,20 @@ word-requires c κs = search needs
 returns-4 : tie.Need-returns-4
 unfolding lentTo accessOf effect msixRead tableWord
 returns-4 c =
-    let a = c .before .before .before .before .before .before .before .before .before .before .before .args in
+    let a = c .before .before .before .before .before .before .before .before .before .before .before .before .args in
+    let n = rw (c .before .before .before .before .before .before .before .before .before .before .nothing-lent .ensures) at (c .before .before .before .before .before .before .before .before .before .space-refusal .ensures .0) in
     let on = rw (c .before .before .before .before .before .before .memory-on .ensures, c .before .before .before .before .before .before .before .peer .ensures) at (not-false (c .before .before .before .before .before .before .memory-on .result) (c .before .before .before .before .before .if2 .left)) in
     let inside = rw (c .before .before .before .in-table .ensures, c .before .before .before .before .settings .ensures) at (not-false (c .before .before .before .in-table .result) (c .before .before .if3 .left)) in
     λ region.
     reply-accepted _ _ (c .word .result)
-    (region-refusal (hubOf (a .hub .now)) region (a .id) (Act.msixRead (a .offset) (a .width)) (a .offset) (a .width) refl refl ∙ sym (c .before .before .before .before .before .before .before .before .before .space-refusal .ensures .0) ∙ c .before .before .before .before .before .before .before .before .if1 .left)
+    (region-refusal (hubOf (a .hub .now)) region (a .id) (Act.msixRead (a .offset) (a .width)) (a .offset) (a .width) refl refl ∙ sym n ∙ c .before .before .before .before .before .before .before .before .if1 .left)
     (rw (on, inside, c .word .ensures, c .before .entry .ensures))
 
 pub msix-read-spec : {M : Type 1} → statement M
 msix-read-spec =
     tie.close
     (tie.spec
+    nothing-lent-requires
     space-refusal-requires
     answered-requires
     returns

@@ -1,5 +1,4 @@
 -- `hub::reads::register_read` meets its contract: a refusal is the table's, and an accepted read is its effect.
-use Prim.Native.Nat.{_<_, _^_}
 use mathlib.Core.Path.{_≡_, refl, sym, _∙_}
 use native.Mathlib.Omega.{arith}
 use borrow.Author.Needs.{needs}
@@ -15,8 +14,11 @@ use Rattle.hub.proofs.ReplyLaws.{reply-refused, reply-accepted}
 use Rattle.hub.proofs.reads.register_read.Statement.{statement}
 use Rattle.hub.proofs.reads.register_read.Tie as tie
 
+nothing-lent-requires : tie.Need-nothing-lent-requires
+nothing-lent-requires c κs = search needs
+
 space-refusal-requires : tie.Need-space-refusal-requires
-space-refusal-requires c κs = (omega arith, λ e. let h = eqb-true (c .before .args .width) 4 e in omega arith)
+space-refusal-requires c κs = (omega arith, λ e. let h = eqb-true (c .before .before .args .width) 4 e in omega arith)
 
 answered-requires : tie.Need-answered-requires
 answered-requires c κs = search needs
@@ -24,11 +26,12 @@ answered-requires c κs = search needs
 returns : tie.Need-returns
 unfolding lentTo accessOf
 returns c =
-    let a = c .before .before .before .before .args in
+    let a = c .before .before .before .before .before .args in
+    let n = rw (c .before .before .before .nothing-lent .ensures) at (c .before .before .space-refusal .ensures .0) in
     λ region.
     c .answered .ensures
     ∙ reply-refused _ _ (c .before .before .space-refusal .result)
-    (region-refusal (hubOf (a .hub .now)) region (a .id) (Act.registerRead (a .offset) (a .width)) (a .offset) (a .width) refl refl ∙ sym (c .before .before .space-refusal .ensures .0)) (c .before .if1 .taken)
+    (region-refusal (hubOf (a .hub .now)) region (a .id) (Act.registerRead (a .offset) (a .width)) (a .offset) (a .width) refl refl ∙ sym n) (c .before .if1 .taken)
 
 settings-requires : tie.Need-settings-requires
 settings-requires c κs = c .before .space-refusal .ensures .1 .0 (c .if1 .left) .room
@@ -44,27 +47,29 @@ read-requires c κs =
     let g = accepted-facts _ (f .numbers) in
     rw (c .before .settings .ensures) (omega (arith, f .slot, g .peers, maxPeers-small))
 
-cast-t11 : tie.Need-cast-t11
-cast-t11 c = search needs
+cast-t12 : tie.Need-cast-t12
+cast-t12 c = search needs
 
 returns-2 : tie.Need-returns-2
 unfolding lentTo accessOf effect
 returns-2 c =
-    let a = c .before .before .before .before .before .before .args in
+    let a = c .before .before .before .before .before .before .before .args in
+    let n = rw (c .before .before .before .before .before .nothing-lent .ensures) at (c .before .before .before .before .space-refusal .ensures .0) in
     λ region.
     reply-accepted _ _ (c .read .result)
-    (region-refusal (hubOf (a .hub .now)) region (a .id) (Act.registerRead (a .offset) (a .width)) (a .offset) (a .width) refl refl ∙ sym (c .before .before .before .before .space-refusal .ensures .0) ∙ c .before .before .before .if1 .left)
+    (region-refusal (hubOf (a .hub .now)) region (a .id) (Act.registerRead (a .offset) (a .width)) (a .offset) (a .width) refl refl ∙ sym n ∙ c .before .before .before .if1 .left)
     (rw (c .read .ensures .0, c .before .before .settings .ensures, c .before .peer .ensures))
 
 pub register-read-spec : {M : Type 1} → statement M
 register-read-spec =
     tie.close
     (tie.spec
+    nothing-lent-requires
     space-refusal-requires
     answered-requires
     returns
     settings-requires
     peer-requires
     read-requires
-    cast-t11
+    cast-t12
     returns-2)

@@ -8,6 +8,9 @@ use Rattle.hub.proofs.ReplyLaws.{question-refused, question-accepted}
 use Rattle.hub.proofs.reads.section_question.Statement.{statement}
 use Rattle.hub.proofs.reads.section_question.Tie as tie
 
+nothing-lent-requires : tie.Need-nothing-lent-requires
+nothing-lent-requires c κs = search needs
+
 range-refusal-requires : tie.Need-range-refusal-requires
 range-refusal-requires c κs = search needs
 
@@ -16,12 +19,12 @@ unanswered-requires c κs = search needs
 
 returns : tie.Need-returns
 returns c =
-    let a = c .before .before .before .before .args in
+    let a = c .before .before .before .before .before .args in
+    let n = rw (c .before .before .before .nothing-lent .ensures) at (c .before .before .range-refusal .ensures .0) in
     λ region.
     c .unanswered .ensures
     ∙ question-refused _ _ (c .before .before .range-refusal .result)
-    (question-refusal (hubOf (a .hub .now)) region (a .id) (a .offset) (a .length) ∙ sym (c .before .before .range-refusal .ensures .0))
-    (c .before .if1 .taken)
+    (question-refusal (hubOf (a .hub .now)) region (a .id) (a .offset) (a .length) ∙ sym n) (c .before .if1 .taken)
 
 settings-requires : tie.Need-settings-requires
 settings-requires c κs = c .before .range-refusal .ensures .1 .0 (c .if1 .left) .room
@@ -39,16 +42,18 @@ answered-requires c κs = search needs
 returns-2 : tie.Need-returns-2
 unfolding effect
 returns-2 c =
-    let a = c .before .before .before .before .before .before .before .args in
+    let a = c .before .before .before .before .before .before .before .before .args in
+    let n = rw (c .before .before .before .before .before .before .nothing-lent .ensures) at (c .before .before .before .before .before .range-refusal .ensures .0) in
     λ region.
     rw (c .answered .ensures, c .before .answer .ensures, c .before .before .section-of .ensures, c .before .before .before .settings .ensures)
     (question-accepted _ _
-    (question-refusal (hubOf (a .hub .now)) region (a .id) (a .offset) (a .length) ∙ sym (c .before .before .before .before .before .range-refusal .ensures .0) ∙ c .before .before .before .before .if1 .left))
+    (question-refusal (hubOf (a .hub .now)) region (a .id) (a .offset) (a .length) ∙ sym n ∙ c .before .before .before .before .if1 .left))
 
 pub section-question-spec : {M : Type 1} → statement M
 section-question-spec =
     tie.close
     (tie.spec
+    nothing-lent-requires
     range-refusal-requires
     unanswered-requires
     returns

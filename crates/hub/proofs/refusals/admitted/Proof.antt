@@ -1,7 +1,6 @@
 -- `hub::refusals::admitted` meets its contract: each test leads to its row, and what passed before it leads past the rows before.
 use Prim.Native.Nat.{_<_}
 use mathlib.Core.Bool.{true, false}
-use mathlib.Core.Bool.{true}
 use mathlib.Core.Path.{_≡_, sym, _∙_}
 use native.Mathlib.Omega.{arith}
 use borrow.Author.Needs.{needs}
@@ -24,7 +23,7 @@ unfolding first
 returns c =
     let a = c .before .before .before .args in
     let s : sound (hubOf (c .before .before .before .args .hub .now)) ≡ false = sym (c .before .sound .ensures) ∙ not-true _ (c .if1 .taken) in
-    with-facts (a .hub .now) (a .regional) (a .region) (a .tabled) (a .records) (a .id) _ (rw s)
+    with-facts (a .hub .now) (a .lent) (a .id) _ (rw s)
 
 settings-requires : tie.Need-settings-requires
 settings-requires c κs =
@@ -39,57 +38,57 @@ total-requires c κs =
 returns-2 : tie.Need-returns-2
 unfolding first
 returns-2 c =
-    let a = c .before .before .before .before .before .before .args in
-    let s : sound (hubOf (c .before .before .before .before .before .before .args .hub .now)) ≡ true = sym (c .before .before .before .before .sound .ensures) ∙ not-false _ (c .before .before .before .if1 .left) in
-    let two = rw (c .before .total .ensures, c .before .before .settings .ensures) at (c .if2 .taken) in
-    with-facts (a .hub .now) (a .regional) (a .region) (a .tabled) (a .records) (a .id) _ (rw (s, two))
+    let a = c .before .before .before .before .before .before .before .before .args in
+    let s : sound (hubOf (c .before .before .before .before .before .before .before .before .args .hub .now)) ≡ true = sym (c .before .before .before .before .before .before .sound .ensures) ∙ not-false _ (c .before .before .before .before .before .if1 .left) in
+    let two = rw (c .before .before .before .total .ensures, c .before .before .before .before .settings .ensures) at (c .if2 .taken) in
+    with-facts (a .hub .now) (a .lent) (a .id) _ (rw (s, two))
 
 returns-3 : tie.Need-returns-3
 unfolding first
 returns-3 c =
-    let a = c .before .before .before .before .before .before .before .before .args in
-    let s : sound (hubOf (c .before .before .before .before .before .before .before .before .args .hub .now)) ≡ true = sym (c .before .before .before .before .before .before .sound .ensures) ∙ not-false _ (c .before .before .before .before .before .if1 .left) in
-    let two = rw (c .before .before .before .total .ensures, c .before .before .before .before .settings .ensures) at (c .before .before .if2 .left) in
-    let eleven = rw (c .before .before .before .before .settings .ensures) at (c .if3 .taken) in
-    with-facts (a .hub .now) (a .regional) (a .region) (a .tabled) (a .records) (a .id) _ (rw (s, two, eleven))
+    let a = c .before .before .before .before .before .before .before .before .before .before .before .before .args in
+    let s : sound (hubOf (c .before .before .before .before .before .before .before .before .before .before .before .before .args .hub .now)) ≡ true = sym (c .before .before .before .before .before .before .before .before .before .before .sound .ensures) ∙ not-false _ (c .before .before .before .before .before .before .before .before .before .if1 .left) in
+    let two = rw (c .before .before .before .before .before .before .before .total .ensures, c .before .before .before .before .before .before .before .before .settings .ensures) at (c .before .before .before .before .if2 .left) in
+    let eleven = rw (c .before .before .before .before .before .before .before .before .settings .ensures) at (c .if3 .taken) in
+    with-facts (a .hub .now) (a .lent) (a .id) _ (rw (s, two, eleven))
 
 returns-4 : tie.Need-returns-4
 unfolding first
 returns-4 c =
-    let a = c .before .before .before .before .before .before .before .before .before .before .args in
-    let s : sound (hubOf (c .before .before .before .before .before .before .before .before .before .before .args .hub .now)) ≡ true = sym (c .before .before .before .before .before .before .before .before .sound .ensures) ∙ not-false _ (c .before .before .before .before .before .before .before .if1 .left) in
-    let two = rw (c .before .before .before .before .before .total .ensures, c .before .before .before .before .before .before .settings .ensures) at (c .before .before .before .before .if2 .left) in
-    let eleven = rw (c .before .before .before .before .before .before .settings .ensures) at (c .before .before .if3 .left) in
-    let three = rw (c .before .before .before .before .before .before .settings .ensures) at (c .if4 .taken) in
-    with-facts (a .hub .now) (a .regional) (a .region) (a .tabled) (a .records) (a .id) _ (rw (s, two, eleven, le-leb _ _ three))
+    let a = c .before .before .before .before .before .before .before .before .before .before .before .before .before .before .args in
+    let s : sound (hubOf (c .before .before .before .before .before .before .before .before .before .before .before .before .before .before .args .hub .now)) ≡ true = sym (c .before .before .before .before .before .before .before .before .before .before .before .before .sound .ensures) ∙ not-false _ (c .before .before .before .before .before .before .before .before .before .before .before .if1 .left) in
+    let two = rw (c .before .before .before .before .before .before .before .before .before .total .ensures, c .before .before .before .before .before .before .before .before .before .before .settings .ensures) at (c .before .before .before .before .before .before .if2 .left) in
+    let eleven = rw (c .before .before .before .before .before .before .before .before .before .before .settings .ensures) at (c .before .before .if3 .left) in
+    let three = rw (c .before .before .before .before .before .before .before .before .before .before .settings .ensures) at (c .if4 .taken) in
+    with-facts (a .hub .now) (a .lent) (a .id) _ (rw (s, two, eleven, le-leb _ _ three))
 
 peer-requires : tie.Need-peer-requires
 peer-requires c κs =
-    let s : sound (hubOf (c .before .before .before .before .before .before .before .before .before .before .args .hub .now)) ≡ true = sym (c .before .before .before .before .before .before .before .before .sound .ensures) ∙ not-false _ (c .before .before .before .before .before .before .before .if1 .left) in
-    let three = rw (c .before .before .before .before .before .before .settings .ensures) at (c .if4 .left) in
+    let s : sound (hubOf (c .before .before .before .before .before .before .before .before .before .before .before .before .before .before .args .hub .now)) ≡ true = sym (c .before .before .before .before .before .before .before .before .before .before .before .before .sound .ensures) ∙ not-false _ (c .before .before .before .before .before .before .before .before .before .before .before .if1 .left) in
+    let three = rw (c .before .before .before .before .before .before .before .before .before .before .settings .ensures) at (c .if4 .left) in
     (sound-room _ s, omega (arith, accepted-facts _ (sound-numbers _ s) .peers))
 
 returns-5 : tie.Need-returns-5
 unfolding first
 returns-5 c =
-    let a = c .before .before .before .before .before .before .before .before .before .before .before .before .before .args in
-    let s : sound (hubOf (c .before .before .before .before .before .before .before .before .before .before .before .before .before .args .hub .now)) ≡ true = sym (c .before .before .before .before .before .before .before .before .before .before .before .sound .ensures) ∙ not-false _ (c .before .before .before .before .before .before .before .before .before .before .if1 .left) in
-    let two = rw (c .before .before .before .before .before .before .before .before .total .ensures, c .before .before .before .before .before .before .before .before .before .settings .ensures) at (c .before .before .before .before .before .before .before .if2 .left) in
-    let eleven = rw (c .before .before .before .before .before .before .before .before .before .settings .ensures) at (c .before .before .before .before .before .if3 .left) in
-    let three = rw (c .before .before .before .before .before .before .before .before .before .settings .ensures) at (c .before .before .before .if4 .left) in
+    let a = c .before .before .before .before .before .before .before .before .before .before .before .before .before .before .before .before .before .args in
+    let s : sound (hubOf (c .before .before .before .before .before .before .before .before .before .before .before .before .before .before .before .before .before .args .hub .now)) ≡ true = sym (c .before .before .before .before .before .before .before .before .before .before .before .before .before .before .before .sound .ensures) ∙ not-false _ (c .before .before .before .before .before .before .before .before .before .before .before .before .before .before .if1 .left) in
+    let two = rw (c .before .before .before .before .before .before .before .before .before .before .before .before .total .ensures, c .before .before .before .before .before .before .before .before .before .before .before .before .before .settings .ensures) at (c .before .before .before .before .before .before .before .before .before .if2 .left) in
+    let eleven = rw (c .before .before .before .before .before .before .before .before .before .before .before .before .before .settings .ensures) at (c .before .before .before .before .before .if3 .left) in
+    let three = rw (c .before .before .before .before .before .before .before .before .before .before .before .before .before .settings .ensures) at (c .before .before .before .if4 .left) in
     let four = rw (c .before .before .peer .ensures) at (c .if5 .taken) in
-    with-facts (a .hub .now) (a .regional) (a .region) (a .tabled) (a .records) (a .id) _ (rw (s, two, eleven, lt-leb _ _ three, ne-eqb _ _ four))
+    with-facts (a .hub .now) (a .lent) (a .id) _ (rw (s, two, eleven, lt-leb _ _ three, ne-eqb _ _ four))
 
 returns-6 : tie.Need-returns-6
 unfolding first
 returns-6 c =
-    let a = c .before .before .before .before .before .before .before .before .before .before .before .before .before .args in
-    let s : sound (hubOf (c .before .before .before .before .before .before .before .before .before .before .before .before .before .args .hub .now)) ≡ true = sym (c .before .before .before .before .before .before .before .before .before .before .before .sound .ensures) ∙ not-false _ (c .before .before .before .before .before .before .before .before .before .before .if1 .left) in
-    let two = rw (c .before .before .before .before .before .before .before .before .total .ensures, c .before .before .before .before .before .before .before .before .before .settings .ensures) at (c .before .before .before .before .before .before .before .if2 .left) in
-    let eleven = rw (c .before .before .before .before .before .before .before .before .before .settings .ensures) at (c .before .before .before .before .before .if3 .left) in
-    let three = rw (c .before .before .before .before .before .before .before .before .before .settings .ensures) at (c .before .before .before .if4 .left) in
+    let a = c .before .before .before .before .before .before .before .before .before .before .before .before .before .before .before .before .before .args in
+    let s : sound (hubOf (c .before .before .before .before .before .before .before .before .before .before .before .before .before .before .before .before .before .args .hub .now)) ≡ true = sym (c .before .before .before .before .before .before .before .before .before .before .before .before .before .before .before .sound .ensures) ∙ not-false _ (c .before .before .before .before .before .before .before .before .before .before .before .before .before .before .if1 .left) in
+    let two = rw (c .before .before .before .before .before .before .before .before .before .before .before .before .total .ensures, c .before .before .before .before .before .before .before .before .before .before .before .before .before .settings .ensures) at (c .before .before .before .before .before .before .before .before .before .if2 .left) in
+    let eleven = rw (c .before .before .before .before .before .before .before .before .before .before .before .before .before .settings .ensures) at (c .before .before .before .before .before .if3 .left) in
+    let three = rw (c .before .before .before .before .before .before .before .before .before .before .before .before .before .settings .ensures) at (c .before .before .before .if4 .left) in
     let four = rw (c .before .before .peer .ensures) at (c .if5 .left) in
-    with-facts (a .hub .now) (a .regional) (a .region) (a .tabled) (a .records) (a .id) _ (rw (s, two, eleven, lt-leb _ _ three, eq-eqb _ _ four))
+    with-facts (a .hub .now) (a .lent) (a .id) _ (rw (s, two, eleven, lt-leb _ _ three, eq-eqb _ _ four))
 
 pub admitted-spec : {M : Type 1} → statement M
 admitted-spec =

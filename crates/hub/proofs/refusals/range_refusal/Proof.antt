@@ -1,5 +1,4 @@
 -- `hub::refusals::range_refusal` meets its contract: the checks of a range come after those of the caller.
-use mathlib.Core.Bool.{false}
 use mathlib.Core.Path.{_≡_, refl, sym, _∙_}
 use borrow.Author.Needs.{needs}
 use Rattle.common.proofs.TestLaws.{first-stops, first-goes-on}
@@ -17,8 +16,8 @@ returns c =
     let a = c .before .before .before .args in
     let h = hubOf (a .hub .now) in
     let e = c .before .admitted .ensures .0 in
-    range-facts (a .hub .now) (a .regional) (a .region) (a .id) (a .offset) (a .length) _
-    (e ∙ sym (first-stops (admission h (a .regional) (a .region) false 0 (a .id)) (rangeRows (h .settings) (a .offset) (a .length)) (λ z. c .if1 .taken (e ∙ z))))
+    range-facts (a .hub .now) (a .lent) (a .id) (a .offset) (a .length) _
+    (e ∙ sym (first-stops (admission h (a .lent) (a .id)) (rangeRows (h .settings) (a .offset) (a .length)) (λ z. c .if1 .taken (e ∙ z))))
 
 settings-requires : tie.Need-settings-requires
 settings-requires c κs = c .before .admitted .ensures .1 (c .if1 .left) .room
@@ -32,8 +31,8 @@ returns-2 c =
     let h = hubOf (a .hub .now) in
     let e = c .before .before .before .admitted .ensures .0 in
     let f = rw (c .before .settings .ensures) at (c .range .ensures) in
-    range-facts (a .hub .now) (a .regional) (a .region) (a .id) (a .offset) (a .length) _
-    (f ∙ sym (first-goes-on (admission h (a .regional) (a .region) false 0 (a .id)) (rangeRows (h .settings) (a .offset) (a .length)) refl (sym e ∙ c .before .before .if1 .left)))
+    range-facts (a .hub .now) (a .lent) (a .id) (a .offset) (a .length) _
+    (f ∙ sym (first-goes-on (admission h (a .lent) (a .id)) (rangeRows (h .settings) (a .offset) (a .length)) refl (sym e ∙ c .before .before .if1 .left)))
 
 pub range-refusal-spec : {M : Type 1} → statement M
 range-refusal-spec =

@@ -1,5 +1,4 @@
 -- `hub::refusals::space_refusal` meets its contract: the checks of an access come after those of the caller.
-use mathlib.Core.Bool.{false}
 use mathlib.Core.Path.{_≡_, refl, sym, _∙_}
 use borrow.Author.Needs.{needs}
 use Rattle.common.proofs.TestLaws.{first-stops, first-goes-on}
@@ -16,8 +15,8 @@ returns : tie.Need-returns
 returns c =
     let a = c .before .before .before .args in
     let e = c .before .admitted .ensures .0 in
-    space-facts (a .hub .now) (a .id) (a .size) (a .allowed) (a .offset) (a .width) _
-    (e ∙ sym (first-stops (admission (hubOf (a .hub .now)) false 0 false 0 (a .id)) (spaceRows (a .size) (a .allowed) (a .offset) (a .width)) (λ z. c .if1 .taken (e ∙ z))))
+    space-facts (a .hub .now) (a .lent) (a .id) (a .size) (a .allowed) (a .offset) (a .width) _
+    (e ∙ sym (first-stops (admission (hubOf (a .hub .now)) (a .lent) (a .id)) (spaceRows (a .size) (a .allowed) (a .offset) (a .width)) (λ z. c .if1 .taken (e ∙ z))))
 
 space-requires : tie.Need-space-requires
 space-requires c κs = search needs
@@ -26,8 +25,8 @@ returns-2 : tie.Need-returns-2
 returns-2 c =
     let a = c .before .before .before .before .args in
     let e = c .before .before .admitted .ensures .0 in
-    space-facts (a .hub .now) (a .id) (a .size) (a .allowed) (a .offset) (a .width) _
-    (c .space .ensures ∙ sym (first-goes-on (admission (hubOf (a .hub .now)) false 0 false 0 (a .id)) (spaceRows (a .size) (a .allowed) (a .offset) (a .width)) refl (sym e ∙ c .before .if1 .left)))
+    space-facts (a .hub .now) (a .lent) (a .id) (a .size) (a .allowed) (a .offset) (a .width) _
+    (c .space .ensures ∙ sym (first-goes-on (admission (hubOf (a .hub .now)) (a .lent) (a .id)) (spaceRows (a .size) (a .allowed) (a .offset) (a .width)) refl (sym e ∙ c .before .if1 .left)))
 
 pub space-refusal-spec : {M : Type 1} → statement M
 space-refusal-spec = tie.close (tie.spec admitted-requires returns space-requires returns-2)

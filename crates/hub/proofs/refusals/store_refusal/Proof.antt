@@ -1,5 +1,4 @@
 -- `hub::refusals::store_refusal` meets its contract: the right to store is asked last.
-use mathlib.Core.Bool.{true, false}
 use mathlib.Core.List.{_++_}
 use mathlib.Core.Path.{_≡_, refl, sym, _∙_}
 use borrow.Author.Needs.{needs}
@@ -20,8 +19,8 @@ returns c =
     let a = c .before .before .before .args in
     let h = hubOf (a .hub .now) in
     let e = c .before .range-refusal .ensures .0 in
-    store-facts (a .hub .now) (a .region) (a .id) (a .offset) (a .length) _
-    (e ∙ sym (first-stops (admission h true (a .region) false 0 (a .id) ++ rangeRows (h .settings) (a .offset) (a .length)) (storeRows (h .settings) (a .id) (a .offset) (a .length)) (λ z. c .if1 .taken (e ∙ z))))
+    store-facts (a .hub .now) (a .lent) (a .id) (a .offset) (a .length) _
+    (e ∙ sym (first-stops (admission h (a .lent) (a .id) ++ rangeRows (h .settings) (a .offset) (a .length)) (storeRows (h .settings) (a .id) (a .offset) (a .length)) (λ z. c .if1 .taken (e ∙ z))))
 
 settings-requires : tie.Need-settings-requires
 settings-requires c κs = c .before .range-refusal .ensures .1 .0 (c .if1 .left) .room
@@ -40,8 +39,8 @@ returns-2 c =
     let h = hubOf (a .hub .now) in
     let e = c .before .before .before .before .before .range-refusal .ensures .0 in
     let no = rw (c .before .may-store .ensures, c .before .before .section-of .ensures, c .before .before .before .settings .ensures) at (not-true (c .before .may-store .result) (c .if2 .taken)) in
-    store-facts (a .hub .now) (a .region) (a .id) (a .offset) (a .length) _
-    (rw (first-goes-on (admission h true (a .region) false 0 (a .id) ++ rangeRows (h .settings) (a .offset) (a .length)) (storeRows (h .settings) (a .id) (a .offset) (a .length)) refl (sym e ∙ c .before .before .before .before .if1 .left), no))
+    store-facts (a .hub .now) (a .lent) (a .id) (a .offset) (a .length) _
+    (rw (first-goes-on (admission h (a .lent) (a .id) ++ rangeRows (h .settings) (a .offset) (a .length)) (storeRows (h .settings) (a .id) (a .offset) (a .length)) refl (sym e ∙ c .before .before .before .before .if1 .left), no))
 
 returns-3 : tie.Need-returns-3
 unfolding first
@@ -50,8 +49,8 @@ returns-3 c =
     let h = hubOf (a .hub .now) in
     let e = c .before .before .before .before .before .range-refusal .ensures .0 in
     let may = rw (c .before .may-store .ensures, c .before .before .section-of .ensures, c .before .before .before .settings .ensures) at (not-false (c .before .may-store .result) (c .if2 .left)) in
-    store-facts (a .hub .now) (a .region) (a .id) (a .offset) (a .length) _
-    (rw (first-goes-on (admission h true (a .region) false 0 (a .id) ++ rangeRows (h .settings) (a .offset) (a .length)) (storeRows (h .settings) (a .id) (a .offset) (a .length)) refl (sym e ∙ c .before .before .before .before .if1 .left), may))
+    store-facts (a .hub .now) (a .lent) (a .id) (a .offset) (a .length) _
+    (rw (first-goes-on (admission h (a .lent) (a .id) ++ rangeRows (h .settings) (a .offset) (a .length)) (storeRows (h .settings) (a .id) (a .offset) (a .length)) refl (sym e ∙ c .before .before .before .before .if1 .left), may))
 
 pub store-refusal-spec : {M : Type 1} → statement M
 store-refusal-spec =

@@ -13,6 +13,9 @@ use Rattle.hub.proofs.ReplyLaws.{reply-refused, reply-accepted}
 use Rattle.hub.proofs.shared.load.Statement.{statement}
 use Rattle.hub.proofs.shared.load.Tie as tie
 
+region-lent-requires : tie.Need-region-lent-requires
+region-lent-requires c κs = search needs
+
 range-refusal-requires : tie.Need-range-refusal-requires
 range-refusal-requires c κs = search needs
 
@@ -21,8 +24,8 @@ answered-requires c κs = search needs
 
 returns : tie.Need-returns
 returns c =
-    let a = c .before .before .before .before .before .before .args in
-    let n = load-refusal (hubOf (a .hub .now)) (a .region .now) (a .id) (a .offset) (length (a .buffer .now)) ∙ sym (c .before .before .range-refusal .ensures .0) in
+    let a = c .before .before .before .before .before .before .before .args in
+    let n = load-refusal (hubOf (a .hub .now)) (a .region .now) (a .id) (a .offset) (length (a .buffer .now)) ∙ sym (rw (c .before .before .before .region-lent .ensures) at (c .before .before .range-refusal .ensures .0)) in
     record
     { reply = c .answered .ensures ∙ reply-refused _ _ (c .before .before .range-refusal .result) n (c .before .if1 .taken)
     ; filled = λ z. absurd (c .before .if1 .taken (sym (ap (λ (r : Reply). r .number) (c .answered .ensures)) ∙ z))
@@ -30,9 +33,9 @@ returns c =
 
 load-requires : tie.Need-load-requires
 load-requires c κs =
-    let f = c .before .before .range-refusal .ensures .1 .1 (c .before .if1 .left) in
-    let t = f .lent refl in
-    let g = f .fits in
+    let f = rw (c .before .before .before .region-lent .ensures) at (c .before .before .range-refusal .ensures .1 .0 (c .before .if1 .left)) in
+    let t = f .region refl in
+    let g = c .before .before .range-refusal .ensures .1 .1 (c .before .if1 .left) .fits in
     omega arith
 
 answered-requires-2 : tie.Need-answered-requires-2
@@ -44,8 +47,8 @@ same-length c = search needs
 returns-2 : tie.Need-returns-2
 unfolding effect
 returns-2 c =
-    let a = c .before .before .before .before .before .before .before .before .before .before .args in
-    let n = load-refusal (hubOf (a .hub .now)) (a .region .now) (a .id) (a .offset) (length (a .buffer .now)) ∙ sym (c .before .before .before .before .before .before .range-refusal .ensures .0) ∙ c .before .before .before .before .before .if1 .left in
+    let a = c .before .before .before .before .before .before .before .before .before .before .before .args in
+    let n = load-refusal (hubOf (a .hub .now)) (a .region .now) (a .id) (a .offset) (length (a .buffer .now)) ∙ sym (rw (c .before .before .before .before .before .before .before .region-lent .ensures) at (c .before .before .before .before .before .before .range-refusal .ensures .0)) ∙ c .before .before .before .before .before .if1 .left in
     record
     { reply = c .answered2 .ensures ∙ reply-accepted _ _ 0 n refl
     ; filled = λ z. c .before .before .before .load .ensures ∙ sym (ap (λ (o : Outcome). o .loaded) (accepted-effect _ _ n))
@@ -55,6 +58,7 @@ pub load-spec : {M : Type 1} → statement M
 load-spec =
     tie.close
     (tie.spec
+    region-lent-requires
     range-refusal-requires
     answered-requires
     returns

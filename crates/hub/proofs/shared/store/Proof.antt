@@ -14,6 +14,9 @@ use Rattle.hub.proofs.ReplyLaws.{step-refused, reply-refused, reply-acc
 use Rattle.hub.proofs.shared.store.Statement.{statement}
 use Rattle.hub.proofs.shared.store.Tie as tie
 
+region-lent-requires : tie.Need-region-lent-requires
+region-lent-requires c κs = search needs
+
 store-refusal-requires : tie.Need-store-refusal-requires
 store-refusal-requires c κs = search needs
 
@@ -22,17 +25,17 @@ answered-requires c κs = search needs
 
 returns : tie.Need-returns
 returns c =
-    let a = c .before .before .before .before .before .before .args in
-    let n = store-refusal (hubOf (a .hub .now)) (a .region .now) (a .id) (a .offset) (a .stored .now) ∙ sym (c .before .before .store-refusal .ensures .0) in
+    let a = c .before .before .before .before .before .before .before .args in
+    let n = store-refusal (hubOf (a .hub .now)) (a .region .now) (a .id) (a .offset) (a .stored .now) ∙ sym (rw (c .before .before .before .region-lent .ensures) at (c .before .before .store-refusal .ensures .0)) in
     record
     { reply = c .answered .ensures ∙ reply-refused _ _ (c .before .before .store-refusal .result) n (c .before .if1 .taken)
     ; region = sym (ap (λ (o : Outcome). o .world) (step-refused _ _ (c .before .before .store-refusal .result) n (c .before .if1 .taken))) }
 
 store-requires : tie.Need-store-requires
 store-requires c κs =
-    let f = c .before .before .store-refusal .ensures .1 .1 (c .before .if1 .left) in
-    let t = f .lent refl in
-    let g = f .fits in
+    let f = rw (c .before .before .before .region-lent .ensures) at (c .before .before .store-refusal .ensures .1 .0 (c .before .if1 .left)) in
+    let t = f .region refl in
+    let g = c .before .before .store-refusal .ensures .1 .1 (c .before .if1 .left) .fits in
     omega arith
 
 answered-requires-2 : tie.Need-answered-requires-2
@@ -44,8 +47,8 @@ same-length c = search needs
 returns-2 : tie.Need-returns-2
 unfolding effect runAll run
 returns-2 c =
-    let a = c .before .before .before .before .before .before .before .before .before .before .args in
-    let n = store-refusal (hubOf (a .hub .now)) (a .region .now) (a .id) (a .offset) (a .stored .now) ∙ sym (c .before .before .before .before .before .before .store-refusal .ensures .0) ∙ c .before .before .before .before .before .if1 .left in
+    let a = c .before .before .before .before .before .before .before .before .before .before .before .args in
+    let n = store-refusal (hubOf (a .hub .now)) (a .region .now) (a .id) (a .offset) (a .stored .now) ∙ sym (rw (c .before .before .before .before .before .before .before .region-lent .ensures) at (c .before .before .before .before .before .before .store-refusal .ensures .0)) ∙ c .before .before .before .before .before .if1 .left in
     record
     { reply = c .answered2 .ensures ∙ reply-accepted _ _ 0 n refl
     ; region =
@@ -56,6 +59,7 @@ pub store-spec : {M : Type 1} → statement M
 store-spec =
     tie.close
     (tie.spec
+    region-lent-requires
     store-refusal-requires
     answered-requires
     returns

@@ -12,8 +12,11 @@ use Rattle.hub.proofs.ReplyLaws.{changes-refused, changes-accepted}
 use Rattle.hub.proofs.writes.configuration_write.Statement.{statement}
 use Rattle.hub.proofs.writes.configuration_write.Tie as tie
 
+nothing-lent-requires : tie.Need-nothing-lent-requires
+nothing-lent-requires c κs = search needs
+
 space-refusal-requires : tie.Need-space-refusal-requires
-space-refusal-requires c κs = (omega arith, any-width (c .before .before .args .width))
+space-refusal-requires c κs = (omega arith, any-width (c .before .before .before .args .width))
 
 answered-requires : tie.Need-answered-requires
 answered-requires c κs = search needs
@@ -24,11 +27,11 @@ same-length c = search needs
 returns : tie.Need-returns
 unfolding lentTo accessOf
 returns c =
-    let a = c .before .before .before .before .before .args in
+    let a = c .before .before .before .before .before .before .args in
+    let n = rw (c .before .before .before .before .nothing-lent .ensures) at (c .before .before .space-refusal .ensures .0) in
     changes-refused (a .hub .now) _ (c .before .before .space-refusal .result) _
     (λ region.
-    configuration-refusal (hubOf (a .hub .now)) region (a .id) (Act.configurationWrite (a .offset) (a .width) (a .value)) (a .offset) (a .width) refl refl
-    ∙ sym (c .before .before .space-refusal .ensures .0))
+    configuration-refusal (hubOf (a .hub .now)) region (a .id) (Act.configurationWrite (a .offset) (a .width) (a .value)) (a .offset) (a .width) refl refl ∙ sym n)
     (c .before .if1 .taken) (c .answered .ensures)
 
 settings-requires : tie.Need-settings-requires
@@ -42,7 +45,7 @@ peer-requires c κs =
 write-requires : tie.Need-write-requires
 write-requires c κs =
     let f = c .before .before .before .before .before .before .space-refusal .ensures .1 .1 (c .before .before .before .before .before .if1 .left) in
-    (any-width (c .before .before .before .before .before .before .before .before .before .args .width) (f .width) .1, f .fits)
+    (any-width (c .before .before .before .before .before .before .before .before .before .before .args .width) (f .width) .1, f .fits)
 
 put-peer-requires : tie.Need-put-peer-requires
 put-peer-requires c κs =
@@ -58,11 +61,11 @@ same-length-2 c = search needs
 returns-2 : tie.Need-returns-2
 unfolding lentTo accessOf effect runAll run
 returns-2 c =
-    let a = c .before .before .before .before .before .before .before .before .before .before .before .before .before .before .args in
+    let a = c .before .before .before .before .before .before .before .before .before .before .before .before .before .before .before .args in
+    let n = rw (c .before .before .before .before .before .before .before .before .before .before .before .before .before .nothing-lent .ensures) at (c .before .before .before .before .before .before .before .before .before .before .before .space-refusal .ensures .0) in
     changes-accepted (a .hub .now) _ _ _
     (λ region.
-    configuration-refusal (hubOf (a .hub .now)) region (a .id) (Act.configurationWrite (a .offset) (a .width) (a .value)) (a .offset) (a .width) refl refl
-    ∙ sym (c .before .before .before .before .before .before .before .before .before .before .before .space-refusal .ensures .0) ∙ c .before .before .before .before .before .before .before .before .before .before .if1 .left)
+    configuration-refusal (hubOf (a .hub .now)) region (a .id) (Act.configurationWrite (a .offset) (a .width) (a .value)) (a .offset) (a .width) refl refl ∙ sym n ∙ c .before .before .before .before .before .before .before .before .before .before .if1 .left)
     (c .answered2 .ensures) (λ region. refl)
     (λ region. rw (c .before .before .before .put-peer .ensures, c .before .before .before .before .write .ensures, c .before .before .before .before .before .before .before .before .settings .ensures, c .before .before .before .before .before .before .peer .ensures))
 
@@ -70,6 +73,7 @@ pub configuration-write-spec : {M : Type 1} → statement M
 configuration-write-spec =
     tie.close
     (tie.spec
+    nothing-lent-requires
     space-refusal-requires
     answered-requires
     same-length

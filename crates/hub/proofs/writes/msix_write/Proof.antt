@@ -17,8 +17,11 @@ use Rattle.hub.proofs.ReplyLaws.{changes-refused, changes-accepted}
 use Rattle.hub.proofs.writes.msix_write.Statement.{statement}
 use Rattle.hub.proofs.writes.msix_write.Tie as tie
 
+nothing-lent-requires : tie.Need-nothing-lent-requires
+nothing-lent-requires c κs = search needs
+
 space-refusal-requires : tie.Need-space-refusal-requires
-space-refusal-requires c κs = (omega arith, λ e. let h = eqb-true (c .before .before .args .width) 4 e in omega arith)
+space-refusal-requires c κs = (omega arith, λ e. let h = eqb-true (c .before .before .before .args .width) 4 e in omega arith)
 
 answered-requires : tie.Need-answered-requires
 answered-requires c κs = search needs
@@ -29,11 +32,11 @@ same-length c = search needs
 returns : tie.Need-returns
 unfolding lentTo accessOf
 returns c =
-    let a = c .before .before .before .before .before .args in
+    let a = c .before .before .before .before .before .before .args in
+    let n = rw (c .before .before .before .before .nothing-lent .ensures) at (c .before .before .space-refusal .ensures .0) in
     changes-refused (a .hub .now) _ (c .before .before .space-refusal .result) _
     (λ region.
-    region-refusal (hubOf (a .hub .now)) region (a .id) (Act.msixWrite (a .offset) (a .width) (a .value)) (a .offset) (a .width) refl refl
-    ∙ sym (c .before .before .space-refusal .ensures .0))
+    region-refusal (hubOf (a .hub .now)) region (a .id) (Act.msixWrite (a .offset) (a .width) (a .value)) (a .offset) (a .width) refl refl ∙ sym n)
     (c .before .if1 .taken) (c .answered .ensures)
 
 peer-requires : tie.Need-peer-requires
@@ -53,12 +56,12 @@ same-length-2 c = search needs
 returns-2 : tie.Need-returns-2
 unfolding lentTo accessOf effect runAll run
 returns-2 c =
-    let a = c .before .before .before .before .before .before .before .before .before .args in
+    let a = c .before .before .before .before .before .before .before .before .before .before .args in
+    let n = rw (c .before .before .before .before .before .before .before .before .nothing-lent .ensures) at (c .before .before .before .before .before .before .space-refusal .ensures .0) in
     let off = rw (c .before .before .memory-on .ensures, c .before .before .before .peer .ensures) at (not-true (c .before .before .memory-on .result) (c .before .if2 .taken)) in
     changes-accepted (a .hub .now) _ _ _
     (λ region.
-    region-refusal (hubOf (a .hub .now)) region (a .id) (Act.msixWrite (a .offset) (a .width) (a .value)) (a .offset) (a .width) refl refl
-    ∙ sym (c .before .before .before .before .before .before .space-refusal .ensures .0) ∙ c .before .before .before .before .before .if1 .left)
+    region-refusal (hubOf (a .hub .now)) region (a .id) (Act.msixWrite (a .offset) (a .width) (a .value)) (a .offset) (a .width) refl refl ∙ sym n ∙ c .before .before .before .before .before .if1 .left)
     (c .answered2 .ensures) (λ region. refl) (λ region. rw off)
 
 settings-requires : tie.Need-settings-requires
@@ -76,19 +79,19 @@ same-length-3 c = search needs
 returns-3 : tie.Need-returns-3
 unfolding lentTo accessOf effect runAll run msixWritten
 returns-3 c =
-    let a = c .before .before .before .before .before .before .before .before .before .before .before .before .before .args in
+    let a = c .before .before .before .before .before .before .before .before .before .before .before .before .before .before .args in
+    let n = rw (c .before .before .before .before .before .before .before .before .before .before .before .before .nothing-lent .ensures) at (c .before .before .before .before .before .before .before .before .before .before .space-refusal .ensures .0) in
     let on = rw (c .before .before .before .before .before .before .memory-on .ensures, c .before .before .before .before .before .before .before .peer .ensures) at (not-false (c .before .before .before .before .before .before .memory-on .result) (c .before .before .before .before .before .if2 .left)) in
     let out = rw (c .before .before .in-table .ensures, c .before .before .before .settings .ensures) at (not-true (c .before .before .in-table .result) (c .before .if3 .taken)) in
     changes-accepted (a .hub .now) _ _ _
     (λ region.
-    region-refusal (hubOf (a .hub .now)) region (a .id) (Act.msixWrite (a .offset) (a .width) (a .value)) (a .offset) (a .width) refl refl
-    ∙ sym (c .before .before .before .before .before .before .before .before .before .before .space-refusal .ensures .0) ∙ c .before .before .before .before .before .before .before .before .before .if1 .left)
+    region-refusal (hubOf (a .hub .now)) region (a .id) (Act.msixWrite (a .offset) (a .width) (a .value)) (a .offset) (a .width) refl refl ∙ sym n ∙ c .before .before .before .before .before .before .before .before .before .if1 .left)
     (c .answered3 .ensures) (λ region. refl) (λ region. rw (on, out) (slot-kept (hubOf (a .hub .now)) (a .id)))
 
 entry-requires : tie.Need-entry-requires
 unfolding inTable
 entry-requires c κs =
-    let a = c .before .before .before .before .before .before .before .before .before .before .before .before .before .args in
+    let a = c .before .before .before .before .before .before .before .before .before .before .before .before .before .before .args in
     let f = c .before .before .before .before .before .before .before .before .before .before .space-refusal .ensures .1 .0 (c .before .before .before .before .before .before .before .before .before .if1 .left) in
     let inside = rw (c .before .before .in-table .ensures, c .before .before .before .settings .ensures) at (not-false (c .before .before .in-table .result) (c .before .if3 .left)) in
     let v : a .offset / 16 < hubOf (a .hub .now) .settings .vectors = ltb-true _ _ inside in
@@ -100,7 +103,7 @@ with-word-requires c κs = search needs
 put-entry-requires : tie.Need-put-entry-requires
 unfolding inTable
 put-entry-requires c κs =
-    let a = c .before .before .before .before .before .before .before .before .before .before .before .before .before .before .before .before .args in
+    let a = c .before .before .before .before .before .before .before .before .before .before .before .before .before .before .before .before .before .args in
     let f = c .before .before .before .before .before .before .before .before .before .before .before .before .before .space-refusal .ensures .1 .0 (c .before .before .before .before .before .before .before .before .before .before .before .before .if1 .left) in
     let inside = rw (c .before .before .before .before .before .in-table .ensures, c .before .before .before .before .before .before .settings .ensures) at (not-false (c .before .before .before .before .before .in-table .result) (c .before .before .before .before .if3 .left)) in
     let v : a .offset / 16 < hubOf (a .hub .now) .settings .vectors = ltb-true _ _ inside in
@@ -115,13 +118,13 @@ same-length-4 c = search needs
 returns-4 : tie.Need-returns-4
 unfolding lentTo accessOf effect runAll run msixWritten
 returns-4 c =
-    let a = c .before .before .before .before .before .before .before .before .before .before .before .before .before .before .before .before .before .before .before .before .args in
+    let a = c .before .before .before .before .before .before .before .before .before .before .before .before .before .before .before .before .before .before .before .before .before .args in
+    let n = rw (c .before .before .before .before .before .before .before .before .before .before .before .before .before .before .before .before .before .before .before .nothing-lent .ensures) at (c .before .before .before .before .before .before .before .before .before .before .before .before .before .before .before .before .before .space-refusal .ensures .0) in
     let on = rw (c .before .before .before .before .before .before .before .before .before .before .before .before .before .memory-on .ensures, c .before .before .before .before .before .before .before .before .before .before .before .before .before .before .peer .ensures) at (not-false (c .before .before .before .before .before .before .before .before .before .before .before .before .before .memory-on .result) (c .before .before .before .before .before .before .before .before .before .before .before .before .if2 .left)) in
     let inside = rw (c .before .before .before .before .before .before .before .before .before .in-table .ensures, c .before .before .before .before .before .before .before .before .before .before .settings .ensures) at (not-false (c .before .before .before .before .before .before .before .before .before .in-table .result) (c .before .before .before .before .before .before .before .before .if3 .left)) in
     changes-accepted (a .hub .now) _ _ _
     (λ region.
-    region-refusal (hubOf (a .hub .now)) region (a .id) (Act.msixWrite (a .offset) (a .width) (a .value)) (a .offset) (a .width) refl refl
-    ∙ sym (c .before .before .before .before .before .before .before .before .before .before .before .before .before .before .before .before .before .space-refusal .ensures .0) ∙ c .before .before .before .before .before .before .before .before .before .before .before .before .before .before .before .before .if1 .left)
+    region-refusal (hubOf (a .hub .now)) region (a .id) (Act.msixWrite (a .offset) (a .width) (a .value)) (a .offset) (a .width) refl refl ∙ sym n ∙ c .before .before .before .before .before .before .before .before .before .before .before .before .before .before .before .before .if1 .left)
     (c .answered4 .ensures) (λ region. refl)
     (λ region. rw (on, inside, c .before .before .before .put-entry .ensures, c .before .before .before .before .with-word .ensures, c .before .before .before .before .before .before .entry .ensures))
 
@@ -129,6 +132,7 @@ pub msix-write-spec : {M : Type 1} → statement M
 msix-write-spec =
     tie.close
     (tie.spec
+    nothing-lent-requires
     space-refusal-requires
     answered-requires
     same-length
