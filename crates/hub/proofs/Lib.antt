@@ -1,3 +1,4 @@
 pub mod RefusalLaws
 pub mod ReplyLaws
+pub mod RunLaws
 pub mod SetUpLaws

@@ -183,3 +183,16 @@ store-facts ws lent id at n r e =
     (e
     , (λ z. range-facts ws lent id at n 0 (range z) .1 .0 refl
     , λ z. range-facts ws lent id at n 0 (range z) .1 .1 refl))
+
+-- the calls that are lent the region and a delivery table: reset and disconnect reach for nothing further
+pub served-refusal : (h : Hub) (region : List ℕ) (id n : ℕ) (act : Act) → lentTo act ≡ Lent.regionAndTable n →
+    accessOf act ≡ Access.none → refusal (world h region) (call id act) ≡ first (admission h (bothLent (length region) n) id)
+unfolding first wrongRegion shortTable missing present wrongWidth misaligned outside forbidden isConnected
+served-refusal h region id n act l a = by-kind h region id act (Lent.regionAndTable n) Access.none l a
+
+pub register-write-refusal : (h : Hub) (region : List ℕ) (id n at w x : ℕ) →
+    refusal (world h region) (call id (Act.registerWrite n at w x))
+    ≡ first (admission h (bothLent (length region) n) id ++ spaceRows 4096 (eqb w 4) at w)
+unfolding first wrongRegion shortTable missing present wrongWidth misaligned outside forbidden isConnected lentTo accessOf
+register-write-refusal h region id n at w x =
+    by-kind h region id (Act.registerWrite n at w x) (Lent.regionAndTable n) (Access.registers at w) refl refl

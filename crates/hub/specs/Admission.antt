@@ -1,6 +1,6 @@
 -- The checks of 'When the hub says no' in the parts that the code makes: those of the hub, of what is lent and of the id, and
 -- those of an access. proofs/RefusalLaws.antt shows that together they are the table.
-use Prim.Native.Nat.{ℕ, _+_, _%_, _<_, _≤_}
+use Prim.Native.Nat.{ℕ, _+_, _*_, _%_, _<_, _≤_}
 use mathlib.Core.Bool.{Bool, true, false, not, _&&_, _||_}
 use mathlib.Core.List.{List, [], _∷_}
 use mathlib.Core.Path.{_≡_}
@@ -14,6 +14,7 @@ use Rattle.device.specs.Sizes.{maxPeers}
 use Rattle.device.specs.Sound.{sound}
 use Rattle.device.specs.World.{Hub, slotAt}
 use Rattle.words.specs.Layout.{hubWords, hubOf}
+use Rattle.gate.specs.RingOutcome.{Usable}
 use Rattle.hub.specs.declared.Lending.{Lending}
 
 -- what is lent, as the code passes it: whether the region is, and its length; whether a delivery table is, and its records
@@ -79,3 +80,9 @@ pub record InSection (s : Settings) (offset length : ℕ) : Type 0 where
 pub record SetUpFacts (words : ℕ) (s : Settings) : Type 0 where
   pub room : words ≡ hubWords
   pub numbers : accepted s ≡ true
+
+-- a hub and a region on which a peer's call can be carried out
+pub record Ready (ws region : List ℕ) (id : ℕ) : Type 0 where
+  pub usable : Usable ws
+  pub slot : id < maxPeers
+  pub state : 4 * id + 4 ≤ length region

@@ -8,9 +8,13 @@ use Rattle.device.specs.declared.Reply.{Reply}
 use Rattle.device.specs.declared.SectionReply.{SectionReply}
 use Rattle.device.specs.declared.Settings.{Settings}
 use Rattle.device.specs.Call.{Call}
+use Rattle.device.specs.Effect.{Operation}
 use Rattle.device.specs.SetUp.{setUpRefusal, hubAfterSetUp, regionAfterSetUp}
-use Rattle.device.specs.Step.{step, replyOf, sectionReplyOf}
+use Rattle.device.specs.Step.{runAll, step, replyOf, sectionReplyOf}
 use Rattle.device.specs.World.{world}
+use Rattle.deliveries.specs.declared.Deliveries.{Deliveries}
+use Rattle.deliveries.specs.Listed.{listed}
+use Rattle.hub.specs.declared.Served.{Served}
 use Rattle.words.specs.Layout.{hubWords, hubOf}
 
 -- A read: the region is not lent, and the answer is the same whatever it holds.
@@ -59,3 +63,18 @@ pub record SetsUp (before after regionBefore regionAfter : List ℕ) (s : Settin
   pub region : regionAfter ≡ regionAfterSetUp (r .number) regionBefore
   pub zero : (r .number ≡ 0 → ⊥) → (r .number ≡ 10 → ⊥) → after ≡ replicate (length before) 0
   pub kept : r .number ≡ 10 → after ≡ before
+
+-- Operations run on the hub and the region: what they leave, and their deliveries in order.
+pub record Runs (hub after region regionAfter : List ℕ) (id : ℕ) (operations : List Operation) (d : Deliveries) : Type 0 where
+  pub left : world (hubOf after) regionAfter ≡ runAll id (world (hubOf hub) region) operations .world
+  pub deliveries : listed d ≡ runAll id (world (hubOf hub) region) operations .deliveries
+  pub count : d .count ≡ length (listed d)
+
+-- A call that is lent the region and a delivery table, whose length is among the call's arguments: hub and region afterwards are
+-- the step's, the deliveries are the step's in order and their count is their number, and a refusal leaves each word as it was.
+pub record Serves (hub after region regionAfter : List ℕ) (c : Call) (r : Served) : Type 0 where
+  pub reply : r .reply ≡ replyOf (step (world (hubOf hub) region) c)
+  pub left : world (hubOf after) regionAfter ≡ step (world (hubOf hub) region) c .world
+  pub deliveries : listed (r .list) ≡ step (world (hubOf hub) region) c .deliveries
+  pub count : r .list .count ≡ length (listed (r .list))
+  pub kept : (r .reply .number ≡ 0 → ⊥) → after ≡ hub

@@ -1,8 +1,11 @@
-// The register region: what a read gives.
-use device::{Peer, Settings};
+// The register region: what a read gives, and the registers with one of them stored to.
+use device::{Peer, PeerId, Settings, Vector};
 
 ghost use mathlib.Core.Path.{_≡_};
 ghost use Prim.Native.Nat.{_<_, _^_};
+ghost use lib.Bits.{bitAnd};
+ghost use Rattle.device.specs.Effect.{withState, stateValue, rungPeer, rungVector};
+ghost use Rattle.device.specs.Ring.{withInterrupt};
 ghost use Rattle.device.specs.Registers.{memoryOn, registerAt, registerValue, registerRead, unmapped};
 
 // What the register region and the MSI-X region read while Command bit 1 is off.
@@ -41,4 +44,34 @@ pub fn read(s: Settings, who: u64, p: Peer, at: u64) -> u64
     } else {
         UNMAPPED
     }
+}
+
+// Interrupt Control has bit 0 only.
+pub fn with_interrupt(p: Peer, value: u32) -> Peer
+    ensures { λ r. ⌜ r ≡ withInterrupt p (bitAnd value 1) ⌝ }
+{
+    let mut q = p;
+    q.interrupt = value & 1;
+    q
+}
+
+pub fn with_state(p: Peer, value: u32) -> Peer
+    ensures { λ r. ⌜ r ≡ withState p (stateValue value) ⌝ }
+{
+    let mut q = p;
+    q.state = value & 0xFFFFFFFF;
+    q
+}
+
+// A Doorbell store's vector, bits 0-15, and target, bits 16-31.
+pub fn rung_vector(value: u32) -> Vector
+    ensures { λ r. ⌜ r ≡ rungVector value ⌝ }
+{
+    Vector(value % 65536)
+}
+
+pub fn rung_peer(value: u32) -> PeerId
+    ensures { λ r. ⌜ r ≡ rungPeer value ⌝ }
+{
+    PeerId(value / 65536 % 65536)
 }

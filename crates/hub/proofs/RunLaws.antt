@@ -1,0 +1,119 @@
+-- Operations run one after the other, and the calls that are made of them.
+use Prim.Native.Nat.{ℕ, _+_, _*_, _≤_, _<_}
+use mathlib.Core.Bool.{Bool, true, false, cond}
+use mathlib.Core.List.{List, [], _∷_, _++_, append-nil}
+use mathlib.Core.Path.{_≡_, refl, sym, ap, ap₂, _∙_}
+use native.Mathlib.Omega.{arith}
+use lib.ListN.{length}
+use lib.Dec.{eqb}
+use lib.Seq.{sets}
+use borrow.Author.Tests.{ne-eqb}
+use Rattle.common.specs.Bytes.{bytes}
+use Rattle.device.specs.declared.Delivery.{Delivery}
+use Rattle.device.specs.declared.PeerId.{PeerId}
+use Rattle.device.specs.declared.Reply.{Reply}
+use Rattle.device.specs.declared.Vector.{Vector}
+use Rattle.device.specs.Call.{Call}
+use Rattle.device.specs.Effect.{Operation, registerStored}
+use Rattle.device.specs.Refusal.{refusal}
+use Rattle.device.specs.Registers.{Register, registerAt}
+use Rattle.device.specs.Ring as Ring
+use Rattle.device.specs.SetUp.{total}
+use Rattle.device.specs.Step.{Outcome, run, runAll, step, effectIn}
+use Rattle.device.specs.World.{Hub, Slot, World, world, withSlot}
+use Rattle.device.proofs.SetUpLaws.{accepted-facts}
+use Rattle.device.proofs.StepLaws.{accepted-effect}
+use Rattle.deliveries.specs.declared.Deliveries.{Deliveries}
+use Rattle.deliveries.specs.Listed.{listed}
+use Rattle.gate.specs.RingOutcome.{Usable}
+use Rattle.words.specs.Layout.{hubOf}
+use Rattle.hub.specs.declared.Served.{Served}
+use Rattle.hub.specs.Admission.{bothLent, Admitted, Ready}
+use Rattle.hub.specs.Promises.{Runs, Serves}
+use Rattle.hub.proofs.ReplyLaws.{refusedBy, step-refused, reply-refused, reply-accepted}
+
+-- an admitted caller that is lent the region has a State Table entry there
+pub ready : (ws region : List ℕ) (records id : ℕ) → Admitted ws (bothLent (length region) records) id → Ready ws region id
+unfolding total
+ready ws region records id a =
+    let f = accepted-facts (hubOf ws .settings) (a .numbers) in
+    let t : length region ≡ total (hubOf ws .settings) = a .region refl in
+    record
+    { usable = record { room = a .room; numbers = a .numbers }
+    ; slot = a .slot
+    ; state = omega (arith, a .known, f .state, t) }
+
+-- the same hub and region after the own slot was written
+pub ready-kept : (ws after region : List ℕ) (id : ℕ) (slot : Slot) → Ready ws region id → length after ≡ length ws →
+    hubOf after ≡ withSlot (hubOf ws) id slot → Ready after region id
+ready-kept ws after region id slot r n e =
+    record
+    { usable = record { room = n ∙ r .usable .room; numbers = rw e (r .usable .numbers) }
+    ; slot = r .slot
+    ; state = r .state }
+
+module _ (ws after region : List ℕ) (id : ℕ) (d : Deliveries) (count : d .count ≡ length (listed d)) where
+  pub runs-nothing : hubOf after ≡ hubOf ws → listed d ≡ [] → Runs ws after region region id [] d
+  unfolding runAll
+  runs-nothing e none = record { left = ap (λ (h : Hub). world h region) e; deliveries = none; count = count }
+
+  pub runs-own : (slot : Slot) → hubOf after ≡ withSlot (hubOf ws) id slot → listed d ≡ [] →
+      Runs ws after region region id (Operation.own slot ∷ []) d
+  unfolding runAll run
+  runs-own slot e none = record { left = ap (λ (h : Hub). world h region) e; deliveries = none; count = count }
+
+  pub runs-ring : (t : PeerId) (v : Vector) → hubOf after ≡ Ring.ring (hubOf ws) t v .hub →
+      listed d ≡ Ring.ring (hubOf ws) t v .deliveries → Runs ws after region region id (Operation.ringOne t v ∷ []) d
+  unfolding runAll run
+  runs-ring t v e ds =
+      record { left = ap (λ (h : Hub). world h region) e; deliveries = ds ∙ sym (append-nil _); count = count }
+
+  pub runs-announce : (after′ vs : List ℕ) → after′ ≡ sets region (4 * id) vs → hubOf after ≡ Ring.ringOthers id (hubOf ws) .hub →
+      listed d ≡ Ring.ringOthers id (hubOf ws) .deliveries →
+      Runs ws after region after′ id (Operation.write (4 * id) vs ∷ Operation.ringOthers ∷ []) d
+  unfolding runAll run
+  runs-announce after′ vs s e ds =
+      record { left = ap₂ (λ (h : Hub) (l : List ℕ). world h l) e s; deliveries = ds ∙ sym (append-nil _); count = count }
+
+-- the own slot first, then the rest
+pub runs-own-then : (ws mid after region after′ : List ℕ) (id : ℕ) (slot : Slot) (os : List Operation) (d : Deliveries) →
+    hubOf mid ≡ withSlot (hubOf ws) id slot → Runs mid after region after′ id os d →
+    Runs ws after region after′ id (Operation.own slot ∷ os) d
+unfolding runAll run
+runs-own-then ws mid after region after′ id slot os d e r =
+    record { left = rw e at (r .left); deliveries = rw e at (r .deliveries); count = r .count }
+
+pub serves-refused : (ws region : List ℕ) (c : Call) (n : ℕ) (r : Served) → refusal (world (hubOf ws) region) c ≡ n → (n ≡ 0 → ⊥) →
+    r .reply ≡ refusedBy n → listed (r .list) ≡ [] → r .list .count ≡ length (listed (r .list)) → Serves ws ws region region c r
+serves-refused ws region c n r e some a none count =
+    let s = step-refused (world (hubOf ws) region) c n e some in
+    record
+    { reply = a ∙ reply-refused _ c n e some
+    ; left = sym (ap (λ (o : Outcome). o .world) s)
+    ; deliveries = none ∙ sym (ap (λ (o : Outcome). o .deliveries) s)
+    ; count = count
+    ; kept = λ p. refl }
+
+pub serves-accepted : (ws after region after′ : List ℕ) (c : Call) (r : Served) → refusal (world (hubOf ws) region) c ≡ 0 →
+    0 ≡ effectIn (world (hubOf ws) region) c .value → r .reply ≡ refusedBy 0 →
+    Runs ws after region after′ (c .who) (effectIn (world (hubOf ws) region) c .operations) (r .list) →
+    Serves ws after region after′ c r
+serves-accepted ws after region after′ c r e value a runs =
+    let s = accepted-effect (world (hubOf ws) region) c e in
+    record
+    { reply = a ∙ reply-accepted _ c 0 e value
+    ; left = runs .left ∙ sym (ap (λ (o : Outcome). o .world) s)
+    ; deliveries = runs .deliveries ∙ sym (ap (λ (o : Outcome). o .deliveries) s)
+    ; count = runs .count
+    ; kept = λ p. absurd (p (ap (λ (x : Reply). x .number) a)) }
+
+-- a store to any other offset than the three registers' does nothing
+pub nothing-stored : (who : ℕ) (slot : Slot) (at x : ℕ) → (at ≡ 0x08 → ⊥) → (at ≡ 0x0C → ⊥) → (at ≡ 0x10 → ⊥) →
+    registerStored who slot (registerAt at) x ≡ []
+unfolding registerAt registerStored
+nothing-stored who slot at x a b c = rw (ne-eqb at 0x08 a, ne-eqb at 0x0C b, ne-eqb at 0x10 c) (by (eqb at 0x00) (eqb at 0x04))
+  where
+    by : (p q : Bool) → registerStored who slot (cond p Register.identity (cond q Register.maximumPeers Register.none)) x ≡ []
+    by true q = refl
+    by false true = refl
+    by false false = refl

@@ -1,0 +1,123 @@
+-- `hub::announcing::store_register` meets its contract, register by register.
+use mathlib.Core.Path.{_≡_, refl, sym, ap, _∙_}
+use lib.Bits.{bitAnd}
+use borrow.Author.Needs.{needs}
+use Rattle.device.specs.Effect.{registerStored, announces, withState, stateValue, rungPeer, rungVector}
+use Rattle.device.specs.Registers.{registerAt}
+use Rattle.device.specs.Ring.{withInterrupt}
+use Rattle.device.specs.World.{slotAt, withPeer}
+use Rattle.device.specs.declared.Peer.{Peer}
+use Rattle.words.specs.Layout.{hubOf}
+use Rattle.hub.proofs.RunLaws.{ready-kept, runs-nothing, runs-own, runs-ring, runs-own-then, nothing-stored}
+use Rattle.hub.proofs.announcing.store_register.Statement.{statement}
+use Rattle.hub.proofs.announcing.store_register.Tie as tie
+
+peer-requires : tie.Need-peer-requires
+peer-requires c κs = search needs
+
+with-interrupt-requires : tie.Need-with-interrupt-requires
+with-interrupt-requires c κs = search needs
+
+put-peer-requires : tie.Need-put-peer-requires
+put-peer-requires c κs = search needs
+
+none-requires : tie.Need-none-requires
+none-requires c κs = search needs
+
+rung-peer-requires : tie.Need-rung-peer-requires
+rung-peer-requires c κs = search needs
+
+rung-vector-requires : tie.Need-rung-vector-requires
+rung-vector-requires c κs = search needs
+
+ring-one-requires : tie.Need-ring-one-requires
+ring-one-requires c κs = search needs
+
+with-state-requires : tie.Need-with-state-requires
+with-state-requires c κs = search needs
+
+put-peer-requires-2 : tie.Need-put-peer-requires-2
+put-peer-requires-2 c κs = search needs
+
+announce-requires : tie.Need-announce-requires
+announce-requires c κs =
+    let a = c .before .before .before .before .before .before .before .before .before .before .before .before .args in
+    let s = slotAt (hubOf (a .hub .now)) (a .id) in
+    ready-kept (a .hub .now) _ (a .region .now) (a .id) (withPeer s (c .before .before .before .before .before .before .with-state .result)) (c .before .before .before .before .before .before .before .before .before .before .before .before .pre) (c .before .before .before .before .put-peer2 .kept .0) (c .before .before .before .before .put-peer2 .ensures)
+
+none-requires-2 : tie.Need-none-requires-2
+none-requires-2 c κs = search needs
+
+same-length : tie.Need-same-length
+same-length c = search needs
+
+returns : tie.Need-returns
+unfolding registerStored registerAt
+returns c =
+    let a = c .before .before .before .before .before .before .before .before .before .before .before .args in
+    let s = slotAt (hubOf (a .hub .now)) (a .id) in
+    rw (c .before .before .before .before .before .before .match .keys1)
+    (runs-own (a .hub .now) _ (a .region .now) (a .id) _ (c .none .ensures .1) (withPeer s (withInterrupt (s .peer) (bitAnd (a .value) 1)))
+    (rw (c .before .before .before .put-peer .ensures, c .before .before .before .before .with-interrupt .ensures, c .before .before .before .before .before .before .before .peer .ensures)) (c .none .ensures .0))
+
+same-length-2 : tie.Need-same-length-2
+same-length-2 c = search needs
+
+returns-2 : tie.Need-returns-2
+unfolding registerStored registerAt
+returns-2 c =
+    let a = c .before .before .before .before .before .before .before .before .before .before .before .args in
+    rw (c .before .before .before .before .before .before .match .keys2)
+    (runs-ring (a .hub .now) _ (a .region .now) (a .id) _ (c .before .before .ring-one .ensures .1 .1) (rungPeer (a .value)) (rungVector (a .value))
+    (rw (← (c .before .before .before .before .rung-peer .ensures), ← (c .before .before .before .rung-vector .ensures)) (c .before .before .ring-one .ensures .0))
+    (rw (← (c .before .before .before .before .rung-peer .ensures), ← (c .before .before .before .rung-vector .ensures)) (c .before .before .ring-one .ensures .1 .0)))
+
+same-length-3 : tie.Need-same-length-3
+same-length-3 c = search needs
+
+same-length-4 : tie.Need-same-length-4
+same-length-4 c = search needs
+
+returns-3 : tie.Need-returns-3
+unfolding registerStored registerAt announces
+returns-3 c =
+    let a = c .before .before .before .before .before .before .before .before .before .before .before .before .before .before .before .before .before .args in
+    let s = slotAt (hubOf (a .hub .now)) (a .id) in
+    let q : c .before .before .before .before .before .before .before .before .before .before .before .with-state .result ≡ withState (s .peer) (stateValue (a .value)) = c .before .before .before .before .before .before .before .before .before .before .before .with-state .ensures ∙ ap (λ (p : Peer). withState p (stateValue (a .value))) (c .before .before .before .before .before .before .before .before .before .before .before .before .before .peer .ensures) in
+    rw (c .before .before .before .before .before .before .before .before .before .before .before .before .match .keys3)
+    (runs-own-then (a .hub .now) (c .before .before .before .before .before .before .before .before .before .put-peer2 .last .0) _ (a .region .now) _ (a .id) (withPeer s (withState (s .peer) (stateValue (a .value)))) _ _
+    (c .before .before .before .before .before .before .before .before .before .put-peer2 .ensures ∙ rw q) (rw q at (c .before .before .before .before .announce .ensures)))
+
+same-length-5 : tie.Need-same-length-5
+same-length-5 c = search needs
+
+returns-4 : tie.Need-returns-4
+returns-4 c =
+    let a = c .before .before .before .before .before .before .args in
+    rw (nothing-stored (a .id) (slotAt (hubOf (a .hub .now)) (a .id)) (a .offset) (a .value) (c .before .match .rest .0 .0 .1) (c .before .match .rest .0 .1) (c .before .match .rest .1))
+    (runs-nothing (a .hub .now) _ (a .region .now) (a .id) _ (c .none2 .ensures .1) refl (c .none2 .ensures .0))
+
+pub store-register-spec : {M : Type 1} → statement M
+store-register-spec =
+    tie.close
+    (tie.spec
+    peer-requires
+    with-interrupt-requires
+    put-peer-requires
+    none-requires
+    rung-peer-requires
+    rung-vector-requires
+    ring-one-requires
+    with-state-requires
+    put-peer-requires-2
+    announce-requires
+    none-requires-2
+    same-length
+    returns
+    same-length-2
+    returns-2
+    same-length-3
+    same-length-4
+    returns-3
+    same-length-5
+    returns-4)
