@@ -1,12 +1,12 @@
 -- Laws of specs/Tests.antt.
-use Prim.Native.Nat.{ℕ, zero, suc, _+_, _<_, _≤_}
+use Prim.Native.Nat.{ℕ, zero, suc, _<_, _≤_}
 use mathlib.Core.Bool.{Bool, true, false, cond, _&&_}
-use mathlib.Core.Path.{_≡_, refl, sym, ap, subst, _∙_}
+use mathlib.Core.Path.{_≡_, refl, sym, _∙_}
 use mathlib.Core.List.{List, [], _∷_, _++_}
 use native.Mathlib.Omega.{arith}
 use lib.Dec.{eqb, leb, ltb}
 use borrow.Author.Tests.{leb-true, ltb-true, eqb-true, eqb-false}
-use lib.ListN.{length, getD}
+use lib.ListN.{getD}
 use Rattle.common.specs.Tests.{Row, row, first, everyAfter, every, below}
 
 pub and-left : (a b : Bool) → a && b ≡ true → a ≡ true
@@ -103,6 +103,7 @@ first-parts (x ∷ xs) ys p e =
     let s = split-row x (first (xs ++ ys)) (and-left (ltb 0 (x .number)) (positive xs) p) e in
     let t = first-parts xs ys (and-right (ltb 0 (x .number)) (positive xs) p) (s .1) in
     (rw (s .0) (t .0), t .1)
+
 -- two ways to go on, by whether two numbers are equal
 pub by-equal : {P : Type 0} (a b : ℕ) → (a ≡ b → P) → ((a ≡ b → ⊥) → P) → P
 by-equal {P} a b same other = go (eqb a b) refl

@@ -1,6 +1,6 @@
 // What a read gives, worked out for the bytes asked for and no others.
-use device::{Peer, Settings};
-
+use device::Peer;
+use device::Settings;
 ghost use mathlib.Core.Path.{_≡_};
 ghost use mathlib.Core.Bool.{cond};
 ghost use Prim.Native.Nat.{_+_, _-_, _≤_, _<_, _^_};

@@ -1,6 +1,6 @@
 // What a write leaves: byte by byte, only the bits of the mask.
-use device::{Peer, Settings};
-
+use device::Peer;
+use device::Settings;
 ghost use mathlib.Core.Path.{_≡_};
 ghost use mathlib.Core.Bool.{cond};
 ghost use Prim.Native.Nat.{_-_, _+_, _≤_, _<_};
@@ -55,11 +55,7 @@ fn replaced(at: u64, start: u64, size: u64, b: u64, x: u32) -> u32
     ensures { λ r. ⌜ r ≡ cond (within start size at) (Bytes.setByte (at - start) b x) x ⌝ }
 {
     let held = (start <= at) & (at < start + size);
-    if held {
-        set_byte(at - start, b, x)
-    } else {
-        x
-    }
+    if held { set_byte(at - start, b, x) } else { x }
 }
 
 fn with_byte(p: Peer, at: u64, b: u64) -> Peer

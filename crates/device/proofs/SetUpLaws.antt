@@ -2,12 +2,12 @@
 use Prim.Native.Nat.{ℕ, _+_, _*_, _^_, _≤_, _<_}
 use mathlib.Core.Bool.{Bool, true, false, not}
 use mathlib.Core.List.{List, [], _∷_}
-use mathlib.Core.Path.{_≡_, refl, ap, _∙_}
-use native.Mathlib.Nat.{mul-le-mul-right, mul-le-mul-left, le-trans}
+use mathlib.Core.Path.{_≡_, refl}
+use native.Mathlib.Nat.{mul-le-mul-right}
 use native.Mathlib.Omega.{arith}
-use lib.Dec.{eqb, leb, ltb}
+use lib.Dec.{eqb, leb}
 use lib.ListN.{getD}
-use borrow.Author.Tests.{leb-true, ltb-true, eqb-true, eqb-false, not-true}
+use borrow.Author.Tests.{leb-true, ltb-true}
 use Rattle.common.specs.Tests.{every}
 use Rattle.common.proofs.TestLaws.{every-true}
 use Rattle.device.specs.declared.Settings.{Settings}
@@ -15,7 +15,6 @@ use Rattle.device.specs.SetUp.{accepted, total, paged, sixteenBits}
 use Rattle.device.specs.Sizes.{maxPeers, maxVectors}
 use Rattle.device.specs.Sound.{sound}
 use Rattle.device.specs.World.{zeroHub}
-use Rattle.device.proofs.SizeLaws.{maxPeers-small, maxVectors-small}
 
 pub record Accepted (s : Settings) : Type 0 where
   pub two : 2 ≤ s .peers
@@ -56,17 +55,18 @@ each s e k = every-true (tests s) e k
 pub accepted-facts : (s : Settings) → accepted s ≡ true → Accepted s
 unfolding tests
 accepted-facts s e =
-    record
-    { two = leb-true _ _ (each s e 0)
-    ; peers = leb-true _ _ (each s e 1)
-    ; one = leb-true _ _ (each s e 2)
-    ; vectors = leb-true _ _ (each s e 3)
-    ; state = leb-true _ _ (each s e 6)
-    ; whole = leb-true _ _ (each s e 9)
-    ; placed = leb-true _ _ (each s e 11)
-    ; protocol = ltb-true _ _ (each s e 12)
-    ; vendor = ltb-true _ _ (each s e 13)
-    ; subsystem = ltb-true _ _ (each s e 14) }
+    record {
+      two = leb-true _ _ (each s e 0);
+      peers = leb-true _ _ (each s e 1);
+      one = leb-true _ _ (each s e 2);
+      vectors = leb-true _ _ (each s e 3);
+      state = leb-true _ _ (each s e 6);
+      whole = leb-true _ _ (each s e 9);
+      placed = leb-true _ _ (each s e 11);
+      protocol = ltb-true _ _ (each s e 12);
+      vendor = ltb-true _ _ (each s e 13);
+      subsystem = ltb-true _ _ (each s e 14);
+    }
 
 -- each section is no larger than the whole
 pub table-small : (s : Settings) → Accepted s → s .table ≤ 2 ^ 30

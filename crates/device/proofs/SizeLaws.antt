@@ -1,5 +1,5 @@
 -- All that proofs know of the most peers and vectors.
-use Prim.Native.Nat.{ℕ, _≤_, _<_, _^_}
+use Prim.Native.Nat.{_≤_, _<_, _^_}
 use native.Mathlib.Omega.{arith}
 use Rattle.device.specs.Sizes.{maxPeers, maxVectors}
 

@@ -1,9 +1,9 @@
 -- 'Configuration space (256 bytes, little-endian)'.
 use Prim.Native.Nat.{ℕ, zero, suc, _+_, _-_, _*_, _/_, _%_}
-use mathlib.Core.Bool.{Bool, true, false, cond, _&&_}
+use mathlib.Core.Bool.{Bool, cond, _&&_}
 use mathlib.Core.List.{List, [], _∷_, _++_}
 use lib.Dec.{eqb, leb, ltb}
-use Rattle.common.specs.Bytes.{byte, number, setByte, merge}
+use Rattle.common.specs.Bytes.{byte, setByte, merge}
 use Rattle.device.specs.declared.Peer.{Peer}
 use Rattle.device.specs.declared.Settings.{Settings}
 
@@ -115,15 +115,16 @@ maskOf s at (suc size) = maskAt s at + 256 * maskOf s (suc at) size
 -- the registers with the byte at an offset replaced; only offsets that a mask names are kept in registers
 unfoldable pub withByte : Peer → ℕ → ℕ → Peer
 withByte p at b =
-    record
-    { connected = p .connected
-    ; command = cond (within 0x04 2 at) (setByte (at - 0x04) b (p .command)) (p .command)
-    ; bar0 = cond (within 0x10 4 at) (setByte (at - 0x10) b (p .bar0)) (p .bar0)
-    ; bar1 = cond (within 0x14 4 at) (setByte (at - 0x14) b (p .bar1)) (p .bar1)
-    ; privileged = cond (eqb at 0x43) b (p .privileged)
-    ; message = cond (eqb at 0x63) b (p .message)
-    ; interrupt = p .interrupt
-    ; state = p .state }
+    record {
+      connected = p .connected;
+      command = cond (within 0x04 2 at) (setByte (at - 0x04) b (p .command)) (p .command);
+      bar0 = cond (within 0x10 4 at) (setByte (at - 0x10) b (p .bar0)) (p .bar0);
+      bar1 = cond (within 0x14 4 at) (setByte (at - 0x14) b (p .bar1)) (p .bar1);
+      privileged = cond (eqb at 0x43) b (p .privileged);
+      message = cond (eqb at 0x63) b (p .message);
+      interrupt = p .interrupt;
+      state = p .state;
+    }
 
 -- 'A write replaces, byte by byte, only the bits of this mask'
 unfoldable pub writtenByte : Settings → Peer → ℕ → ℕ → Peer

@@ -1,10 +1,10 @@
 -- What an accepted call gives back and changes. An effect sees the settings, the caller's own slot and the region, and asks for
 -- primitive operations; only the rings among these reach other peers.
-use Prim.Native.Nat.{ℕ, _+_, _*_, _/_, _%_, _^_}
-use mathlib.Core.Bool.{Bool, true, false, cond}
+use Prim.Native.Nat.{ℕ, _*_, _/_, _%_, _^_}
+use mathlib.Core.Bool.{cond}
 use mathlib.Core.List.{List, [], _∷_}
 use lib.Bits.{bitAnd}
-use lib.ListN.{length, take, drop}
+use lib.ListN.{take, drop}
 use Rattle.common.specs.Bytes.{bytes}
 use Rattle.device.specs.declared.Peer.{Peer}
 use Rattle.device.specs.declared.PeerId.{PeerId}
@@ -51,15 +51,16 @@ announces who slot =
 
 abbrev pub withState : Peer → ℕ → Peer
 withState p state =
-    record
-    { connected = p .connected
-    ; command = p .command
-    ; bar0 = p .bar0
-    ; bar1 = p .bar1
-    ; privileged = p .privileged
-    ; message = p .message
-    ; interrupt = p .interrupt
-    ; state = state }
+    record {
+      connected = p .connected;
+      command = p .command;
+      bar0 = p .bar0;
+      bar1 = p .bar1;
+      privileged = p .privileged;
+      message = p .message;
+      interrupt = p .interrupt;
+      state = state;
+    }
 
 -- 'v = bits 0-15, t = bits 16-31'
 abbrev pub rungVector : ℕ → Vector

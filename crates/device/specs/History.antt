@@ -1,6 +1,6 @@
 -- 'What a guest can learn': histories, and what one peer observes of them.
-use Prim.Native.Nat.{ℕ, zero, suc, _*_}
-use mathlib.Core.Bool.{Bool, true, false, cond}
+use Prim.Native.Nat.{ℕ, _*_}
+use mathlib.Core.Bool.{cond}
 use mathlib.Core.List.{List, [], _∷_, _++_}
 use lib.Dec.{eqb}
 use lib.ListN.{replicate}
@@ -57,8 +57,9 @@ pub record Spaces : Type 0 where
 
 unfoldable pub spacesOf : ℕ → World → Spaces
 spacesOf b w =
-    record
-    { configuration = tabulate 256 (λ at. configurationByte (w .hub .settings) (slotAt (w .hub) b .peer) at)
-    ; registers =
-        tabulate 1024 (λ k. registerValue (w .hub .settings) b (slotAt (w .hub) b .peer) (registerAt (4 * k)))
-    ; msix = tabulate 1024 (λ k. tableWord (w .hub .settings) (slotAt (w .hub) b) (4 * k)) }
+    record {
+      configuration = tabulate 256 (λ at. configurationByte (w .hub .settings) (slotAt (w .hub) b .peer) at);
+      registers =
+          tabulate 1024 (λ k. registerValue (w .hub .settings) b (slotAt (w .hub) b .peer) (registerAt (4 * k)));
+      msix = tabulate 1024 (λ k. tableWord (w .hub .settings) (slotAt (w .hub) b) (4 * k));
+    }

@@ -1,7 +1,6 @@
 -- 'MSI-X region (4096 bytes, aligned 4-byte only)'.
-use Prim.Native.Nat.{ℕ, zero, suc, _/_, _%_}
-use mathlib.Core.Bool.{Bool, true, false, cond}
-use mathlib.Core.List.{List}
+use Prim.Native.Nat.{ℕ, _/_, _%_}
+use mathlib.Core.Bool.{Bool, cond}
 use lib.Bits.{bitAnd}
 use lib.Dec.{eqb, ltb}
 use Rattle.device.specs.declared.Entry.{Entry}
@@ -42,11 +41,12 @@ controlMask = 0x00000001
 
 unfoldable pub withWord : Entry → ℕ → ℕ → Entry
 withWord e k value =
-    record
-    { low = cond (eqb k 0) (bitAnd value addressMask) (e .low)
-    ; high = cond (eqb k 1) (bitAnd value wordMask) (e .high)
-    ; payload = cond (eqb k 2) (bitAnd value wordMask) (e .payload)
-    ; control = cond (eqb k 3) (bitAnd value controlMask) (e .control) }
+    record {
+      low = cond (eqb k 0) (bitAnd value addressMask) (e .low);
+      high = cond (eqb k 1) (bitAnd value wordMask) (e .high);
+      payload = cond (eqb k 2) (bitAnd value wordMask) (e .payload);
+      control = cond (eqb k 3) (bitAnd value controlMask) (e .control);
+    }
 
 unfoldable pub msixWritten : Settings → Slot → ℕ → ℕ → Slot
 msixWritten s slot at value =

@@ -1,6 +1,6 @@
 -- 'Registers (4096 bytes, aligned 4-byte access only)': the register region.
-use Prim.Native.Nat.{ℕ, _/_, _%_, _^_}
-use mathlib.Core.Bool.{Bool, true, false, cond}
+use Prim.Native.Nat.{ℕ}
+use mathlib.Core.Bool.{Bool, cond}
 use lib.Dec.{eqb}
 use Rattle.common.specs.Bytes.{bit}
 use Rattle.device.specs.declared.Peer.{Peer}

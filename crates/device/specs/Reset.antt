@@ -6,15 +6,16 @@ use Rattle.device.specs.declared.Peer.{Peer}
 -- the registers of a peer at reset; whether it is connected is no register, and is said beside
 abbrev pub resetPeer : ℕ → Peer
 resetPeer connected =
-    record
-    { connected = connected
-    ; command = 0
-    ; bar0 = 0
-    ; bar1 = 0
-    ; privileged = 0
-    ; message = 0
-    ; interrupt = 0
-    ; state = 0 }
+    record {
+      connected = connected;
+      command = 0;
+      bar0 = 0;
+      bar1 = 0;
+      privileged = 0;
+      message = 0;
+      interrupt = 0;
+      state = 0;
+    }
 
 -- 'Reset: 0, 0, 0, 1'
 abbrev pub resetEntry : Entry

@@ -1,6 +1,6 @@
 -- 'One bolt': one ring of one vector at one id, and a ring at every other id.
-use Prim.Native.Nat.{ℕ, zero, suc, _+_, _*_, _/_, _%_, _^_}
-use mathlib.Core.Bool.{Bool, true, false, cond, not}
+use Prim.Native.Nat.{ℕ, zero, suc, _+_, _*_, _^_}
+use mathlib.Core.Bool.{Bool, cond, not}
 use mathlib.Core.List.{List, [], _∷_, _++_}
 use lib.Dec.{eqb, ltb}
 use Rattle.common.specs.Bytes.{bit}
@@ -10,7 +10,6 @@ use Rattle.device.specs.declared.Entry.{Entry}
 use Rattle.device.specs.declared.Gate.{Gate}
 use Rattle.device.specs.declared.Peer.{Peer}
 use Rattle.device.specs.declared.PeerId.{PeerId}
-use Rattle.device.specs.declared.Settings.{Settings}
 use Rattle.device.specs.declared.Target.{Target}
 use Rattle.device.specs.declared.Target.the-variants.{Live, Nobody}
 use Rattle.device.specs.declared.Vector.{Vector}
@@ -25,13 +24,14 @@ vector v = record { 0 = v }
 -- 'The gate of a peer is one small record of its switches'
 unfoldable pub gateOf : Peer → Entry → Gate
 gateOf p e =
-    record
-    { master = bit 2 (p .command)
-    ; enabled = bit 7 (p .message)
-    ; masked = bit 6 (p .message)
-    ; silenced = bit 0 (e .control)
-    ; interrupt = bit 0 (p .interrupt)
-    ; oneshot = bit 0 (p .privileged) }
+    record {
+      master = bit 2 (p .command);
+      enabled = bit 7 (p .message);
+      masked = bit 6 (p .message);
+      silenced = bit 0 (e .control);
+      interrupt = bit 0 (p .interrupt);
+      oneshot = bit 0 (p .privileged);
+    }
 
 -- every switch on its side is on
 unfoldable pub opens : Gate → Bool
@@ -56,15 +56,16 @@ deliveryOf t v e =
 
 abbrev pub withInterrupt : Peer → ℕ → Peer
 withInterrupt p interrupt =
-    record
-    { connected = p .connected
-    ; command = p .command
-    ; bar0 = p .bar0
-    ; bar1 = p .bar1
-    ; privileged = p .privileged
-    ; message = p .message
-    ; interrupt = interrupt
-    ; state = p .state }
+    record {
+      connected = p .connected;
+      command = p .command;
+      bar0 = p .bar0;
+      bar1 = p .bar1;
+      privileged = p .privileged;
+      message = p .message;
+      interrupt = interrupt;
+      state = p .state;
+    }
 
 -- 'Then, if t's Privileged Control bit 0 is 1, t's Interrupt Control becomes 0'
 unfoldable pub afterDelivery : Gate → Slot → Slot

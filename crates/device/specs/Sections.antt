@@ -3,7 +3,6 @@ use Prim.Native.Nat.{ℕ, zero, suc, _+_, _*_}
 use mathlib.Core.Bool.{Bool, true, false, cond, _&&_}
 use mathlib.Core.List.{List, [], _∷_}
 use lib.Dec.{eqb, leb}
-use Rattle.device.specs.declared.PeerId.{PeerId}
 use Rattle.device.specs.declared.SectionAnswer.{SectionAnswer}
 use Rattle.device.specs.declared.SectionKind.{SectionKind}
 use Rattle.device.specs.declared.SectionKind.the-variants.{Nothing, StateTable, ReadWrite, Output}

@@ -53,13 +53,14 @@ refused number w =
 -- 'An accepted call answers number 0'
 abbrev pub done : Effect → Ran → Outcome
 done e r =
-    record
-    { number = 0
-    ; value = e .value
-    ; answer = e .answer
-    ; loaded = e .loaded
-    ; deliveries = r .deliveries
-    ; world = r .world }
+    record {
+      number = 0;
+      value = e .value;
+      answer = e .answer;
+      loaded = e .loaded;
+      deliveries = r .deliveries;
+      world = r .world;
+    }
 
 abbrev pub effectIn : World → Call → Effect
 effectIn w c = effect (w .hub .settings) (c .who) (slotAt (w .hub) (c .who)) (w .region) (c .act)

@@ -1,5 +1,5 @@
 -- 'For peer B, its window of a history holds in order' (a) to (d), and demand 3.
-use Prim.Native.Nat.{ℕ, _-_, _+_, _/_, _%_, _^_, _*_}
+use Prim.Native.Nat.{ℕ, _-_}
 use mathlib.Core.Bool.{Bool, true, false, cond}
 use mathlib.Core.List.{List, [], _∷_, _++_}
 use mathlib.Core.Path.{_≡_}

@@ -34,16 +34,17 @@ zeroSlot = record { peer = resetPeer 0; entries = replicate maxVectors zeroEntry
 
 abbrev pub zeroSettings : Settings
 zeroSettings =
-    record
-    { peers = 0
-    ; vectors = 0
-    ; table = 0
-    ; common = 0
-    ; output = 0
-    ; base = 0
-    ; protocol = 0
-    ; vendor = 0
-    ; subsystem = 0 }
+    record {
+      peers = 0;
+      vectors = 0;
+      table = 0;
+      common = 0;
+      output = 0;
+      base = 0;
+      protocol = 0;
+      vendor = 0;
+      subsystem = 0;
+    }
 
 -- the all-zero hub, which a refused set-up leaves ('When the hub says no')
 unfoldable pub zeroHub : Hub

@@ -62,10 +62,15 @@ pub struct Peer {
 
 impl Peer {
     pub const COMMAND: u32 = 0;
+
     pub const BAR: u32 = 0;
+
     pub const PRIVILEGED: u32 = 0;
+
     pub const MESSAGE: u32 = 0;
+
     pub const INTERRUPT: u32 = 0;
+
     pub const STATE: u32 = 0;
 
     // All registers at their reset values, of a peer that is connected (1) or not (0).
@@ -96,7 +101,9 @@ pub struct Entry {
 
 impl Entry {
     pub const ADDRESS: u32 = 0;
+
     pub const PAYLOAD: u32 = 0;
+
     pub const CONTROL: u32 = 1;
 
     pub fn reset() -> Self

@@ -1,25 +1,24 @@
 -- The parts of the checks are together the table of refusals, and what an admitted call is known to satisfy.
-use Prim.Native.Nat.{ℕ, _+_, _<_, _≤_}
+use Prim.Native.Nat.{ℕ, _<_, _≤_}
 use mathlib.Core.Bool.{Bool, true, false, not}
-use mathlib.Core.List.{List, [], _∷_, _++_}
-use mathlib.Core.Path.{_≡_, refl, sym, ap, _∙_}
+use mathlib.Core.List.{List, _++_}
+use mathlib.Core.Path.{_≡_, refl, sym, _∙_}
 use native.Mathlib.Omega.{arith}
 use lib.Dec.{eqb, leb}
-use lib.ListN.{length, getD}
+use lib.ListN.{length}
 use borrow.Author.Tests.{eqb-true, eqb-false, leb-false, ltb-false, not-false}
-use Rattle.common.specs.Tests.{Row, row, first}
+use Rattle.common.specs.Tests.{first}
 use Rattle.common.proofs.TestLaws.{first-none, first-parts}
 use Rattle.device.specs.Call.{Act, call}
 use Rattle.device.specs.Refusal.{Lent, Access, checks, lentTo, accessOf, wrongRegion, shortTable, missing, present, wrongWidth, misaligned, outside, forbidden, isConnected, refusal}
 use Rattle.device.specs.Sections.{sectionOf, somewhere}
-use Rattle.device.specs.SetUp.{accepted, total}
-use Rattle.device.specs.Sizes.{maxPeers}
+use Rattle.device.specs.SetUp.{total}
 use Rattle.device.specs.Sound.{sound}
-use Rattle.device.specs.World.{Hub, world, slotAt}
-use Rattle.device.proofs.SetUpLaws.{Accepted, accepted-facts}
+use Rattle.device.specs.World.{Hub, world}
+use Rattle.device.proofs.SetUpLaws.{accepted-facts}
 use Rattle.sections.proofs.OutputLaws.{held-fits}
 use Rattle.soundness.proofs.WholeLaws.{sound-numbers, sound-room}
-use Rattle.words.specs.Layout.{hubWords, hubOf}
+use Rattle.words.specs.Layout.{hubOf}
 use Rattle.hub.specs.declared.Lending.{Lending}
 use Rattle.hub.specs.Admission.{nothingLent, regionLent, bothLent, admission, joiningRows, spaceRows, rangeRows, storeRows, anyWidth, Admitted, Inside, InSection}
 
@@ -29,12 +28,13 @@ known-caller : (ws : List ℕ) (lent : Lending) (id : ℕ) → not (sound (hubOf
 known-caller ws lent id n region l =
     let s = not-false _ n in
     let k : id < hubOf ws .settings .peers = leb-false _ _ l in
-    record
-    { room = sound-room ws s
-    ; numbers = sound-numbers (hubOf ws) s
-    ; known = k
-    ; slot = omega (arith, accepted-facts (hubOf ws .settings) (sound-numbers (hubOf ws) s) .peers)
-    ; region = region }
+    record {
+      room = sound-room ws s;
+      numbers = sound-numbers (hubOf ws) s;
+      known = k;
+      slot = omega (arith, accepted-facts (hubOf ws .settings) (sound-numbers (hubOf ws) s) .peers);
+      region = region;
+    }
 
 pub admitted-facts : (ws : List ℕ) (lent : Lending) (id : ℕ) →
     first (admission (hubOf ws) lent id) ≡ 0 → Admitted ws lent id
@@ -87,18 +87,21 @@ module _ (ws : List ℕ) (lent : Lending) (id size : ℕ) (allowed : Bool) (at w
   pub space-inside : Inside size allowed at w
   space-inside =
       let none =
-          first-none (spaceRows size allowed at w) refl
-          (first-parts (admission (hubOf ws) lent id) (spaceRows size allowed at w) refl e .1) in
+      first-none (spaceRows size allowed at w) refl
+      (first-parts (admission (hubOf ws) lent id) (spaceRows size allowed at w) refl e .1) in
       record { width = not-false allowed (none 0); fits = ltb-false _ _ (none 2) }
 
 pub space-facts : (ws : List ℕ) (lent : Lending) (id size : ℕ) (allowed : Bool) (at w r : ℕ) →
     r ≡ first (admission (hubOf ws) lent id ++ spaceRows size allowed at w) →
     (r ≡ first (admission (hubOf ws) lent id ++ spaceRows size allowed at w))
     × ((r ≡ 0 → Admitted ws lent id) × (r ≡ 0 → Inside size allowed at w))
-space-facts ws lent id size allowed at w r e =
-    (e
-    , (λ z. space-admitted ws lent id size allowed at w (sym e ∙ z)
-    , λ z. space-inside ws lent id size allowed at w (sym e ∙ z)))
+space-facts ws lent id size allowed at w r e = (
+  e,
+  (
+    λ z. space-admitted ws lent id size allowed at w (sym e ∙ z),
+    λ z. space-inside ws lent id size allowed at w (sym e ∙ z),
+  ),
+)
 
 -- the widths of configuration space
 pub any-width : (w : ℕ) → anyWidth w ≡ true → (0 < w) × (w ≤ 4)
@@ -106,9 +109,11 @@ any-width w e = one (eqb w 1) refl
   where
     four : eqb w 1 ≡ false → eqb w 2 ≡ false → (0 < w) × (w ≤ 4)
     four a b = let h : w ≡ 4 = eqb-true _ _ (rw (a, b) at e) in omega arith
+
     two : eqb w 1 ≡ false → (b : Bool) → eqb w 2 ≡ b → (0 < w) × (w ≤ 4)
     two a true f = let h : w ≡ 2 = eqb-true _ _ f in omega arith
     two a false f = four a f
+
     one : (b : Bool) → eqb w 1 ≡ b → (0 < w) × (w ≤ 4)
     one true f = let h : w ≡ 1 = eqb-true _ _ f in omega arith
     one false f = two f (eqb w 2) refl
@@ -120,11 +125,12 @@ connect-refusal h region id = refl
 
 pub joining-facts : (ws : List ℕ) (id r : ℕ) → r ≡ first (joiningRows (hubOf ws) id) →
     (r ≡ first (joiningRows (hubOf ws) id)) × (r ≡ 0 → Admitted ws nothingLent id)
-joining-facts ws id r e =
-    (e
-    , λ z.
-    let none = first-none (joiningRows (hubOf ws) id) refl (sym e ∙ z) in
-    known-caller ws nothingLent id (none 0) (λ t. let z : _≡_ {A = ℕ} 0 1 = cc in absurd (omega arith)) (none 1))
+joining-facts ws id r e = (
+  e,
+  λ z.
+      let none = first-none (joiningRows (hubOf ws) id) refl (sym e ∙ z) in
+      known-caller ws nothingLent id (none 0) (λ t. let z : _≡_ {A = ℕ} 0 1 = cc in absurd (omega arith)) (none 1),
+)
 
 -- a range of the shared region that is not refused
 module _ (ws : List ℕ) (lent : Lending) (id at n r : ℕ)
@@ -133,9 +139,10 @@ module _ (ws : List ℕ) (lent : Lending) (id at n r : ℕ)
   range-inside z =
       let parts = first-parts (admission (hubOf ws) lent id) (rangeRows (hubOf ws .settings) at n) refl (sym e ∙ z) in
       let range = first-none (rangeRows (hubOf ws .settings) at n) refl (parts .1) in
-      record
-      { some = positive-length (range 0)
-      ; fits = held-fits (hubOf ws .settings) at n (not-false (somewhere (sectionOf (hubOf ws .settings) at n)) (range 1)) }
+      record {
+        some = positive-length (range 0);
+        fits = held-fits (hubOf ws .settings) at n (not-false (somewhere (sectionOf (hubOf ws .settings) at n)) (range 1));
+      }
     where
       positive-length : eqb n 0 ≡ false → 0 < n
       positive-length f = let h : n ≡ 0 → ⊥ = eqb-false _ _ f in omega arith
@@ -143,12 +150,15 @@ module _ (ws : List ℕ) (lent : Lending) (id at n r : ℕ)
   pub range-facts :
       (r ≡ first (admission (hubOf ws) lent id ++ rangeRows (hubOf ws .settings) at n))
       × ((r ≡ 0 → Admitted ws lent id) × (r ≡ 0 → InSection (hubOf ws .settings) at n))
-  range-facts =
-      (e
-      , (λ z.
-      admitted-facts ws lent id
-      (first-parts (admission (hubOf ws) lent id) (rangeRows (hubOf ws .settings) at n) refl (sym e ∙ z) .0)
-      , range-inside))
+  range-facts = (
+    e,
+    (
+      λ z.
+          admitted-facts ws lent id
+          (first-parts (admission (hubOf ws) lent id) (rangeRows (hubOf ws .settings) at n) refl (sym e ∙ z) .0),
+      range-inside,
+    ),
+  )
 
 -- loads and stores, which are lent the region
 pub load-refusal : (h : Hub) (region : List ℕ) (id at n : ℕ) →
@@ -176,13 +186,16 @@ pub store-facts : (ws : List ℕ) (lent : Lending) (id at n r : ℕ) →
     × ((r ≡ 0 → Admitted ws lent id) × (r ≡ 0 → InSection (hubOf ws .settings) at n))
 store-facts ws lent id at n r e =
     let range : r ≡ 0 → 0 ≡ first (admission (hubOf ws) lent id ++ rangeRows (hubOf ws .settings) at n) =
-        λ z.
-        sym
-        (first-parts (admission (hubOf ws) lent id ++ rangeRows (hubOf ws .settings) at n)
-        (storeRows (hubOf ws .settings) id at n) refl (sym e ∙ z) .0) in
-    (e
-    , (λ z. range-facts ws lent id at n 0 (range z) .1 .0 refl
-    , λ z. range-facts ws lent id at n 0 (range z) .1 .1 refl))
+    λ z.
+    sym
+    (first-parts (admission (hubOf ws) lent id ++ rangeRows (hubOf ws .settings) at n)
+    (storeRows (hubOf ws .settings) id at n) refl (sym e ∙ z) .0) in (
+      e,
+      (
+        λ z. range-facts ws lent id at n 0 (range z) .1 .0 refl,
+        λ z. range-facts ws lent id at n 0 (range z) .1 .1 refl,
+      ),
+    )
 
 -- the calls that are lent the region and a delivery table: reset and disconnect reach for nothing further
 pub served-refusal : (h : Hub) (region : List ℕ) (id n : ℕ) (act : Act) → lentTo act ≡ Lent.regionAndTable n →

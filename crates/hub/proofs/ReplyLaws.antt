@@ -41,10 +41,11 @@ question-accepted w c e = sym (ap (λ (o : Outcome). sectionReplyOf o) (accepted
 pub changes-refused : (ws : List ℕ) (c : Call) (n : ℕ) (r : Reply) → ((region : List ℕ) → refusal (world (hubOf ws) region) c ≡ n) →
     (n ≡ 0 → ⊥) → r ≡ refusedBy n → Changes ws ws c r
 changes-refused ws c n r e some a =
-    record
-    { reply = λ region. a ∙ reply-refused _ c n (e region) some
-    ; hub = λ region. sym (ap (λ (o : Outcome). o .world .hub) (step-refused _ c n (e region) some))
-    ; kept = λ p. refl }
+    record {
+      reply = λ region. a ∙ reply-refused _ c n (e region) some;
+      hub = λ region. sym (ap (λ (o : Outcome). o .world .hub) (step-refused _ c n (e region) some));
+      kept = λ p. refl;
+    }
 
 pub changes-accepted : (before after : List ℕ) (c : Call) (r : Reply) →
     ((region : List ℕ) → refusal (world (hubOf before) region) c ≡ 0) → r ≡ refusedBy 0 →
@@ -53,7 +54,8 @@ pub changes-accepted : (before after : List ℕ) (c : Call) (r : Reply) →
     hubOf after ≡ runAll (c .who) (world (hubOf before) region) (effectIn (world (hubOf before) region) c .operations) .world .hub) →
     Changes before after c r
 changes-accepted before after c r e a value hub =
-    record
-    { reply = λ region. a ∙ reply-accepted _ c 0 (e region) (value region)
-    ; hub = λ region. hub region ∙ sym (ap (λ (o : Outcome). o .world .hub) (accepted-effect _ c (e region)))
-    ; kept = λ p. absurd (p (ap (λ (x : Reply). x .number) a)) }
+    record {
+      reply = λ region. a ∙ reply-accepted _ c 0 (e region) (value region);
+      hub = λ region. hub region ∙ sym (ap (λ (o : Outcome). o .world .hub) (accepted-effect _ c (e region)));
+      kept = λ p. absurd (p (ap (λ (x : Reply). x .number) a));
+    }

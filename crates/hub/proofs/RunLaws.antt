@@ -1,15 +1,13 @@
 -- Operations run one after the other, and the calls that are made of them.
-use Prim.Native.Nat.{ℕ, _+_, _*_, _≤_, _<_}
+use Prim.Native.Nat.{ℕ, _*_}
 use mathlib.Core.Bool.{Bool, true, false, cond}
-use mathlib.Core.List.{List, [], _∷_, _++_, append-nil}
+use mathlib.Core.List.{List, [], _∷_, append-nil}
 use mathlib.Core.Path.{_≡_, refl, sym, ap, ap₂, _∙_}
 use native.Mathlib.Omega.{arith}
 use lib.ListN.{length}
 use lib.Dec.{eqb}
 use lib.Seq.{sets}
 use borrow.Author.Tests.{ne-eqb}
-use Rattle.common.specs.Bytes.{bytes}
-use Rattle.device.specs.declared.Delivery.{Delivery}
 use Rattle.device.specs.declared.PeerId.{PeerId}
 use Rattle.device.specs.declared.Reply.{Reply}
 use Rattle.device.specs.declared.Vector.{Vector}
@@ -19,13 +17,12 @@ use Rattle.device.specs.Refusal.{refusal}
 use Rattle.device.specs.Registers.{Register, registerAt}
 use Rattle.device.specs.Ring as Ring
 use Rattle.device.specs.SetUp.{total}
-use Rattle.device.specs.Step.{Outcome, run, runAll, step, effectIn}
-use Rattle.device.specs.World.{Hub, Slot, World, world, withSlot}
+use Rattle.device.specs.Step.{Outcome, run, runAll, effectIn}
+use Rattle.device.specs.World.{Hub, Slot, world, withSlot}
 use Rattle.device.proofs.SetUpLaws.{accepted-facts}
 use Rattle.device.proofs.StepLaws.{accepted-effect}
 use Rattle.deliveries.specs.declared.Deliveries.{Deliveries}
 use Rattle.deliveries.specs.Listed.{listed}
-use Rattle.gate.specs.RingOutcome.{Usable}
 use Rattle.words.specs.Layout.{hubOf}
 use Rattle.hub.specs.declared.Served.{Served}
 use Rattle.hub.specs.Admission.{bothLent, Admitted, Ready}
@@ -38,19 +35,21 @@ unfolding total
 ready ws region records id a =
     let f = accepted-facts (hubOf ws .settings) (a .numbers) in
     let t : length region ≡ total (hubOf ws .settings) = a .region refl in
-    record
-    { usable = record { room = a .room; numbers = a .numbers }
-    ; slot = a .slot
-    ; state = omega (arith, a .known, f .state, t) }
+    record {
+      usable = record { room = a .room; numbers = a .numbers };
+      slot = a .slot;
+      state = omega (arith, a .known, f .state, t);
+    }
 
 -- the same hub and region after the own slot was written
 pub ready-kept : (ws after region : List ℕ) (id : ℕ) (slot : Slot) → Ready ws region id → length after ≡ length ws →
     hubOf after ≡ withSlot (hubOf ws) id slot → Ready after region id
 ready-kept ws after region id slot r n e =
-    record
-    { usable = record { room = n ∙ r .usable .room; numbers = rw e (r .usable .numbers) }
-    ; slot = r .slot
-    ; state = r .state }
+    record {
+      usable = record { room = n ∙ r .usable .room; numbers = rw e (r .usable .numbers) };
+      slot = r .slot;
+      state = r .state;
+    }
 
 module _ (ws after region : List ℕ) (id : ℕ) (d : Deliveries) (count : d .count ≡ length (listed d)) where
   pub runs-nothing : hubOf after ≡ hubOf ws → listed d ≡ [] → Runs ws after region region id [] d
@@ -87,12 +86,13 @@ pub serves-refused : (ws region : List ℕ) (c : Call) (n : ℕ) (r : Served) �
     r .reply ≡ refusedBy n → listed (r .list) ≡ [] → r .list .count ≡ length (listed (r .list)) → Serves ws ws region region c r
 serves-refused ws region c n r e some a none count =
     let s = step-refused (world (hubOf ws) region) c n e some in
-    record
-    { reply = a ∙ reply-refused _ c n e some
-    ; left = sym (ap (λ (o : Outcome). o .world) s)
-    ; deliveries = none ∙ sym (ap (λ (o : Outcome). o .deliveries) s)
-    ; count = count
-    ; kept = λ p. refl }
+    record {
+      reply = a ∙ reply-refused _ c n e some;
+      left = sym (ap (λ (o : Outcome). o .world) s);
+      deliveries = none ∙ sym (ap (λ (o : Outcome). o .deliveries) s);
+      count = count;
+      kept = λ p. refl;
+    }
 
 pub serves-accepted : (ws after region after′ : List ℕ) (c : Call) (r : Served) → refusal (world (hubOf ws) region) c ≡ 0 →
     0 ≡ effectIn (world (hubOf ws) region) c .value → r .reply ≡ refusedBy 0 →
@@ -100,12 +100,13 @@ pub serves-accepted : (ws after region after′ : List ℕ) (c : Call) (r : Serv
     Serves ws after region after′ c r
 serves-accepted ws after region after′ c r e value a runs =
     let s = accepted-effect (world (hubOf ws) region) c e in
-    record
-    { reply = a ∙ reply-accepted _ c 0 e value
-    ; left = runs .left ∙ sym (ap (λ (o : Outcome). o .world) s)
-    ; deliveries = runs .deliveries ∙ sym (ap (λ (o : Outcome). o .deliveries) s)
-    ; count = runs .count
-    ; kept = λ p. absurd (p (ap (λ (x : Reply). x .number) a)) }
+    record {
+      reply = a ∙ reply-accepted _ c 0 e value;
+      left = runs .left ∙ sym (ap (λ (o : Outcome). o .world) s);
+      deliveries = runs .deliveries ∙ sym (ap (λ (o : Outcome). o .deliveries) s);
+      count = runs .count;
+      kept = λ p. absurd (p (ap (λ (x : Reply). x .number) a));
+    }
 
 -- a store to any other offset than the three registers' does nothing
 pub nothing-stored : (who : ℕ) (slot : Slot) (at x : ℕ) → (at ≡ 0x08 → ⊥) → (at ≡ 0x0C → ⊥) → (at ≡ 0x10 → ⊥) →

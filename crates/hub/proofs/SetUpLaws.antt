@@ -1,33 +1,34 @@
 -- Set-up: accepted numbers fit the words, and what each answer leaves.
-use Prim.Native.Nat.{ℕ, _≤_, _^_}
+use Prim.Native.Nat.{ℕ}
 use mathlib.Core.Bool.{Bool, true, false}
 use mathlib.Core.List.{List}
-use mathlib.Core.Path.{_≡_, refl, sym, ap, _∙_}
+use mathlib.Core.Path.{_≡_, refl}
 use native.Mathlib.Omega.{arith}
 use lib.Dec.{eqb}
-use lib.ListN.{length, replicate}
+use lib.ListN.{length}
 use borrow.Author.Tests.{eqb-false, ne-eqb}
 use Rattle.common.specs.Tests.{first}
 use Rattle.device.specs.declared.Settings.{Settings}
-use Rattle.device.specs.SetUp.{accepted, total, setUpRefusal, freshHub, hubAfterSetUp, regionAfterSetUp}
-use Rattle.device.specs.World.{Hub, zeroHub}
-use Rattle.device.proofs.SetUpLaws.{Accepted, accepted-facts, table-small, common-small, output-small}
+use Rattle.device.specs.SetUp.{accepted, total, setUpRefusal, hubAfterSetUp, regionAfterSetUp}
+use Rattle.device.specs.World.{zeroHub}
+use Rattle.device.proofs.SetUpLaws.{accepted-facts, table-small, common-small, output-small}
 use Rattle.device.proofs.SizeLaws.{maxPeers-small, maxVectors-small}
 use Rattle.words.specs.Layout.{hubWords, hubOf, Storable}
-use Rattle.words.proofs.LayoutLaws.{other-length, zero-words}
+use Rattle.words.proofs.LayoutLaws.{other-length}
 
 pub storable : (s : Settings) → accepted s ≡ true → Storable s
 storable s e =
     let f = accepted-facts s e in
-    record
-    { peers = omega (arith, f .peers, maxPeers-small)
-    ; vectors = omega (arith, f .vectors, maxVectors-small)
-    ; table = omega (arith, table-small s f)
-    ; common = omega (arith, common-small s f)
-    ; output = omega (arith, output-small s f)
-    ; protocol = omega (arith, f .protocol)
-    ; vendor = omega (arith, f .vendor)
-    ; subsystem = omega (arith, f .subsystem) }
+    record {
+      peers = omega (arith, f .peers, maxPeers-small);
+      vectors = omega (arith, f .vectors, maxVectors-small);
+      table = omega (arith, table-small s f);
+      common = omega (arith, common-small s f);
+      output = omega (arith, output-small s f);
+      protocol = omega (arith, f .protocol);
+      vendor = omega (arith, f .vendor);
+      subsystem = omega (arith, f .subsystem);
+    }
 
 -- 10 is given exactly to words of another length
 not-ten : (s : Settings) (region : List ℕ) → setUpRefusal true s region ≡ 10 → ⊥

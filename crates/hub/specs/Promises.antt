@@ -44,16 +44,17 @@ pub record Stores (hub before after : List ℕ) (c : Call) (r : Reply) : Type 0 
 -- the set-up numbers in the order of the rules: N, V, S, R, O, base, protocol type, subsystem vendor, subsystem id
 abbrev pub numbers : ℕ → ℕ → ℕ → ℕ → ℕ → ℕ → ℕ → ℕ → ℕ → Settings
 numbers n v s r o base protocol vendor subsystem =
-    record
-    { peers = n
-    ; vectors = v
-    ; table = s
-    ; common = r
-    ; output = o
-    ; base = base
-    ; protocol = protocol
-    ; vendor = vendor
-    ; subsystem = subsystem }
+    record {
+      peers = n;
+      vectors = v;
+      table = s;
+      common = r;
+      output = o;
+      base = base;
+      protocol = protocol;
+      vendor = vendor;
+      subsystem = subsystem;
+    }
 
 -- Set-up. Refused for its numbers or the region's length it leaves all words zero; refused for the words' own length it leaves
 -- them as they were.

@@ -2,7 +2,6 @@
 use super::Served;
 use super::refusals;
 use deliveries::Deliveries;
-
 ghost use mathlib.Core.Path.{_≡_};
 ghost use mathlib.Core.List.{[], _∷_};
 ghost use Prim.Native.Nat.{_+_, _*_, _≤_, _<_};
@@ -56,7 +55,13 @@ fn restart(hub: &mut [u32], region: &mut [u8], id: u64, connected: u32) -> Deliv
 }
 
 // A store to a register while Command bit 1 is on.
-fn store_register(hub: &mut [u32], region: &mut [u8], id: u64, offset: u64, value: u32) -> Deliveries
+fn store_register(
+    hub: &mut [u32],
+    region: &mut [u8],
+    id: u64,
+    offset: u64,
+    value: u32,
+) -> Deliveries
     requires { ⌜ Ready (now hub) (now region) id ⌝ }
     ensures { λ r. ⌜ Runs (now (hub .entry)) (now (hub .exit)) (now (region .entry)) (now (region .exit)) id (registerStored id (slotAt (hubOf (now (hub .entry))) id) (registerAt offset) value) r ⌝ }
 {
@@ -66,7 +71,11 @@ fn store_register(hub: &mut [u32], region: &mut [u8], id: u64, offset: u64, valu
             words::put_peer(hub, id as usize, registers::with_interrupt(p, value));
             deliveries::none()
         }
-        0x0C => deliveries::ring_one(hub, registers::rung_peer(value), registers::rung_vector(value)),
+        0x0C => deliveries::ring_one(
+            hub,
+            registers::rung_peer(value),
+            registers::rung_vector(value),
+        ),
         0x10 => {
             let q = registers::with_state(p, value);
             words::put_peer(hub, id as usize, q);

@@ -1,7 +1,7 @@
 // Set-up of a hub, and connects.
 use super::refusals;
-use device::{Reply, Settings};
-
+use device::Reply;
+use device::Settings;
 ghost use mathlib.Core.Path.{_≡_};
 ghost use Rattle.common.specs.Tests.{first};
 ghost use lib.Dec.{eqb};

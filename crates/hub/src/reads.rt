@@ -1,7 +1,9 @@
 // The calls that only read.
 use super::refusals;
-use device::{Reply, SectionAnswer, SectionKind, SectionReply};
-
+use device::Reply;
+use device::SectionAnswer;
+use device::SectionKind;
+use device::SectionReply;
 ghost use mathlib.Core.Path.{_≡_};
 ghost use Rattle.device.specs.Call.{call};
 ghost use Rattle.device.specs.Call as Call;
@@ -60,7 +62,10 @@ pub fn msix_read(hub: &[u32], id: u64, offset: u64, width: u64) -> Reply
     }
     let inside = msix::in_table(words::settings(hub), offset);
     if !inside {
-        return Reply { number: 0, value: 0 };
+        return Reply {
+            number: 0,
+            value: 0,
+        };
     }
     let e = words::entry(hub, id as usize, (offset / 16) as usize);
     Reply {

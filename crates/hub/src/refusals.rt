@@ -1,7 +1,7 @@
 // The refusals' numbers, in the order of the rules.
 use super::Lending;
-use device::{Reply, Settings};
-
+use device::Reply;
+use device::Settings;
 ghost use mathlib.Core.Path.{_≡_};
 ghost use mathlib.Core.Bool.{true, false};
 ghost use mathlib.Core.List.{_++_};
@@ -98,7 +98,15 @@ fn space(size: u64, allowed: bool, offset: u64, width: u64) -> u32
 }
 
 // A call with an access to a space.
-pub fn space_refusal(hub: &[u32], lent: Lending, id: u64, size: u64, allowed: bool, offset: u64, width: u64) -> u32
+pub fn space_refusal(
+    hub: &[u32],
+    lent: Lending,
+    id: u64,
+    size: u64,
+    allowed: bool,
+    offset: u64,
+    width: u64,
+) -> u32
     requires { ⌜ (4 ≤ size) × (allowed ≡ true → (0 < width) × (width ≤ 4)) ⌝ }
     ensures is { λ r. ⌜ r ≡ first (admission (hubOf (now (hub .entry))) lent id ++ spaceRows size allowed offset width) ⌝ }
     ensures caller { λ r. ⌜ (r ≡ 0 → Admitted (now (hub .entry)) lent id) ⌝ }
@@ -149,7 +157,10 @@ pub fn store_refusal(hub: &[u32], lent: Lending, id: u64, offset: u64, length: u
     if number != 0 {
         return number;
     }
-    let allowed = sections::may_store(id, sections::section_of(words::settings(hub), offset, length));
+    let allowed = sections::may_store(
+        id,
+        sections::section_of(words::settings(hub), offset, length),
+    );
     if !allowed {
         return 9;
     }

@@ -1,7 +1,6 @@
 // Loads and stores of shared bytes.
 use super::refusals;
 use device::Reply;
-
 ghost use mathlib.Core.Path.{_≡_};
 ghost use lib.ListN.{length};
 ghost use Rattle.device.specs.Call.{call};

@@ -1,7 +1,6 @@
 // Writes of configuration space and of the MSI-X region.
 use super::refusals;
 use device::Reply;
-
 ghost use mathlib.Core.Path.{_≡_};
 ghost use Rattle.device.specs.Call.{call};
 ghost use Rattle.device.specs.Call as Call;
@@ -18,7 +17,11 @@ pub fn configuration_write(hub: &mut [u32], id: u64, offset: u64, width: u64, va
     }
     let s = words::settings(hub);
     let p = words::peer(hub, id as usize);
-    words::put_peer(hub, id as usize, configuration::write(s, p, offset, width, value as u64));
+    words::put_peer(
+        hub,
+        id as usize,
+        configuration::write(s, p, offset, width, value as u64),
+    );
     refusals::answered(0)
 }
 
@@ -41,6 +44,11 @@ pub fn msix_write(hub: &mut [u32], id: u64, offset: u64, width: u64, value: u32)
     }
     let v = (offset / 16) as usize;
     let e = words::entry(hub, id as usize, v);
-    words::put_entry(hub, id as usize, v, msix::with_word(e, offset % 16 / 4, value));
+    words::put_entry(
+        hub,
+        id as usize,
+        v,
+        msix::with_word(e, offset % 16 / 4, value),
+    );
     refusals::answered(0)
 }

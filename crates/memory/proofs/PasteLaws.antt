@@ -1,7 +1,7 @@
 -- Copies into lists: a whole list pasted at an offset, and four stores over four bytes.
 use Prim.Native.Nat.{ℕ, suc, _+_, _≤_, _<_}
-use mathlib.Core.List.{List, [], _∷_, _++_, append-nil, append-assoc}
-use mathlib.Core.Path.{_≡_, refl, sym, ap, _∙_}
+use mathlib.Core.List.{List, [], _∷_, append-nil, append-assoc}
+use mathlib.Core.Path.{_≡_, sym, ap, _∙_}
 use native.Mathlib.Nat.{zero-add}
 use native.Mathlib.Numerals.{add-one}
 use native.Mathlib.Omega.{arith}
@@ -29,7 +29,7 @@ pub load-turn : (b r : List ℕ) (offset k : ℕ) → k < length b → offset + 
 load-turn b r offset k h fits =
     let room : k < length (drop offset r) = rw (length-drop offset r) (omega arith) in
     let turn : set (paste b 0 (drop offset r) k) (0 + k) (getD (drop offset r) k 0) ≡ paste b 0 (drop offset r) (suc k) =
-        paste-suc b 0 (drop offset r) k 0 (omega arith) room in
+    paste-suc b 0 (drop offset r) k 0 (omega arith) room in
     rw (add-one k, ← (getD-drop offset r k 0))
     (ap (λ (n : ℕ). set (paste b 0 (drop offset r) k) n (getD (drop offset r) k 0)) (sym (zero-add k)) ∙ turn)
 

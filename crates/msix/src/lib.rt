@@ -1,6 +1,6 @@
 // The MSI-X region: where an offset lies, and the words of an entry, read and written.
-use device::{Entry, Settings};
-
+use device::Entry;
+use device::Settings;
 ghost use mathlib.Core.Path.{_≡_};
 ghost use Rattle.device.specs.Msix.{inTable, entryWord, withWord};
 

@@ -1,6 +1,8 @@
 // The register region: what a read gives, and the registers with one of them stored to.
-use device::{Peer, PeerId, Settings, Vector};
-
+use device::Peer;
+use device::PeerId;
+use device::Settings;
+use device::Vector;
 ghost use mathlib.Core.Path.{_≡_};
 ghost use Prim.Native.Nat.{_<_, _^_};
 ghost use lib.Bits.{bitAnd};
@@ -39,11 +41,7 @@ pub fn read(s: Settings, who: u64, p: Peer, at: u64) -> u64
     ensures fits { λ r. ⌜ r < 2 ^ 32 ⌝ }
 {
     let on = memory_on(p);
-    if on {
-        value(s, who, p, at)
-    } else {
-        UNMAPPED
-    }
+    if on { value(s, who, p, at) } else { UNMAPPED }
 }
 
 // Interrupt Control has bit 0 only.

@@ -1,7 +1,6 @@
 -- Which section holds a range: the search through all sections comes to the one that division names.
-use Prim.Native.Nat.{ℕ, zero, suc, _+_, _*_, _-_, _/_, _^_, _≤_, _<_}
+use Prim.Native.Nat.{ℕ, zero, suc, _+_, _*_, _-_, _/_, _≤_, _<_}
 use mathlib.Core.Bool.{Bool, true, false, cond, _&&_}
-use mathlib.Core.List.{List, [], _∷_}
 use mathlib.Core.Path.{_≡_, refl, sym, ap, _∙_}
 use native.Mathlib.Nat.{mul-le-mul-right, div-eq-of-lt-le, div-mul-le-self}
 use native.Mathlib.Omega.{arith}
@@ -70,9 +69,10 @@ module _ (s : Settings) (offset length : ℕ) where
   pub held : (k : ℕ) → s .table + s .common + k * s .output ≤ offset →
       offset + length ≤ s .table + s .common + k * s .output + s .output → heldBy s offset length k ≡ true
   held k a b =
-      rw
-      (le-leb (s .table + s .common + k * s .output) offset a
-      , le-leb (offset + length) (s .table + s .common + k * s .output + s .output) b)
+      rw (
+        le-leb (s .table + s .common + k * s .output) offset a,
+        le-leb (offset + length) (s .table + s .common + k * s .output + s .output) b,
+      )
 
   -- what is not true of a section that holds the range makes the test false
   pub not-held : (k : ℕ) → (heldBy s offset length k ≡ true → ⊥) → heldBy s offset length k ≡ false
@@ -99,13 +99,14 @@ module _ (s : Settings) (offset length : ℕ) where
   unfolding sectionOf sections sectionIn total
   beyond h =
       let none : (k : ℕ) → 0 ≤ k → k < 0 + s .peers → heldBy s offset length k ≡ false =
-          (λ k a b.
-          let less : suc k ≤ s .peers = omega arith in
-          let m : suc k * s .output ≤ s .peers * s .output = mul-le-mul-right (s .output) less in
-          ends-before (s .table + s .common + k * s .output) (s .output) (omega arith)) in
-      rw
-      (ends-before 0 (s .table) (omega arith)
-      , ends-before (s .table) (s .common) (omega arith))
+      (λ k a b.
+      let less : suc k ≤ s .peers = omega arith in
+      let m : suc k * s .output ≤ s .peers * s .output = mul-le-mul-right (s .output) less in
+      ends-before (s .table + s .common + k * s .output) (s .output) (omega arith)) in
+      rw (
+        ends-before 0 (s .table) (omega arith),
+        ends-before (s .table) (s .common) (omega arith),
+      )
       (none-holds (s .peers) 0 none)
 
   -- the five ways that the code goes, with q the section that the first byte lies in
@@ -134,7 +135,7 @@ module _ (s : Settings) (offset length : ℕ) where
       sectionIn offset length (outputs s 0 (s .peers)) ≡ Output (peerId ((offset - (s .table + s .common)) / s .output))
   found p h q l =
       let m : (offset - (s .table + s .common)) / s .output * s .output ≤ offset - (s .table + s .common) =
-          div-mul-le-self (offset - (s .table + s .common)) (s .output) in
+      div-mul-le-self (offset - (s .table + s .common)) (s .output) in
       one-holds ((offset - (s .table + s .common)) / s .output) (s .peers) 0 (omega arith) (omega arith)
       (held ((offset - (s .table + s .common)) / s .output) (omega arith) l)
       (held-is p)
@@ -168,6 +169,6 @@ module _ (s : Settings) (offset length : ℕ) where
       by true f = leb-true _ _ f
       by false f =
           let past : somewhere (sectionOf s offset length) ≡ false =
-              ap (λ (k : SectionKind). somewhere k) (beyond (leb-false _ _ f)) in
+          ap (λ (k : SectionKind). somewhere k) (beyond (leb-false _ _ f)) in
           let z : _≡_ {A = ℕ} 0 1 = cc in
           absurd (omega arith)

@@ -1,6 +1,8 @@
 // The sections of the shared region: which one holds a range, and who may store to it.
-use device::{PeerId, SectionAnswer, SectionKind, Settings};
-
+use device::PeerId;
+use device::SectionAnswer;
+use device::SectionKind;
+use device::Settings;
 ghost use mathlib.Core.Path.{_≡_};
 ghost use mathlib.Core.Bool.{true};
 ghost use Prim.Native.Nat.{_+_, _≤_, _<_, _^_};

@@ -1,19 +1,19 @@
 -- What `addable` tells of the numbers, and that accepted numbers are addable.
 use Prim.Native.Nat.{ℕ, _+_, _*_, _-_, _^_, _≤_, _<_}
 use mathlib.Core.Bool.{Bool, true, false}
-use mathlib.Core.List.{List, [], _∷_}
-use mathlib.Core.Path.{_≡_, refl, sym, ap, _∙_}
-use native.Mathlib.Nat.{mul-le-mul-right, mul-le-mul-left, le-trans}
+use mathlib.Core.List.{[], _∷_}
+use mathlib.Core.Path.{_≡_, refl, sym, _∙_}
+use native.Mathlib.Nat.{mul-le-mul-right, le-trans}
 use native.Mathlib.Omega.{arith}
-use lib.Dec.{eqb, leb, ltb}
+use lib.Dec.{leb}
 use lib.ListN.{getD}
 use borrow.Author.Tests.{leb-true, leb-false, le-leb, lt-leb}
 use Rattle.common.specs.Tests.{every}
 use Rattle.common.proofs.TestLaws.{every-true}
 use Rattle.device.specs.declared.Settings.{Settings}
-use Rattle.device.specs.SetUp.{accepted, total}
+use Rattle.device.specs.SetUp.{accepted}
 use Rattle.device.specs.Sizes.{maxPeers}
-use Rattle.device.proofs.SetUpLaws.{Accepted, accepted-facts, table-small, common-small, output-small}
+use Rattle.device.proofs.SetUpLaws.{accepted-facts, table-small, common-small, output-small}
 use Rattle.device.proofs.SizeLaws.{maxPeers-small}
 use Rattle.soundness.specs.Parts.{addable}
 
@@ -42,24 +42,26 @@ addable-facts s e =
     let p : s .peers ≤ 2 ^ 16 = le-trans (leb-true _ _ (each s e 0)) maxPeers-small in
     let o : s .output ≤ 2 ^ 30 = leb-true _ _ (each s e 4) in
     let a : s .peers * s .output ≤ 2 ^ 16 * s .output = mul-le-mul-right (s .output) p in
-    record
-    { peers = p
-    ; one = leb-true _ _ (each s e 1)
-    ; table = leb-true _ _ (each s e 2)
-    ; common = leb-true _ _ (each s e 3)
-    ; outputs = omega arith }
+    record {
+      peers = p;
+      one = leb-true _ _ (each s e 1);
+      table = leb-true _ _ (each s e 2);
+      common = leb-true _ _ (each s e 3);
+      outputs = omega arith;
+    }
 
 pub accepted-addable : (s : Settings) → accepted s ≡ true → addable s ≡ true
 unfolding addable every
 accepted-addable s e =
     let a = accepted-facts s e in
     let one : 1 ≤ s .table = omega (arith, a .two, a .state) in
-    rw
-    (le-leb (s .peers) maxPeers (a .peers)
-    , le-leb 1 (s .table) one
-    , le-leb (s .table) (2 ^ 30) (table-small s a)
-    , le-leb (s .common) (2 ^ 30) (common-small s a)
-    , le-leb (s .output) (2 ^ 30) (output-small s a))
+    rw (
+      le-leb (s .peers) maxPeers (a .peers),
+      le-leb 1 (s .table) one,
+      le-leb (s .table) (2 ^ 30) (table-small s a),
+      le-leb (s .common) (2 ^ 30) (common-small s a),
+      le-leb (s .output) (2 ^ 30) (output-small s a),
+    )
 
 -- numbers that are not addable are not accepted
 pub unaddable-refused : (s : Settings) → addable s ≡ false → accepted s ≡ false

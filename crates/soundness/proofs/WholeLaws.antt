@@ -2,7 +2,7 @@
 use Prim.Native.Nat.{ℕ}
 use mathlib.Core.Bool.{Bool, true, false}
 use mathlib.Core.List.{List}
-use mathlib.Core.Path.{_≡_, refl, sym, ap, _∙_}
+use mathlib.Core.Path.{_≡_, refl, ap, _∙_}
 use native.Mathlib.Omega.{arith}
 use lib.Dec.{eqb}
 use lib.ListN.{length}
@@ -10,7 +10,7 @@ use borrow.Author.Tests.{eqb-true, eqb-false}
 use Rattle.common.proofs.TestLaws.{and-left}
 use Rattle.device.specs.SetUp.{accepted}
 use Rattle.device.specs.Sound.{sound}
-use Rattle.device.specs.World.{Hub, zeroHub}
+use Rattle.device.specs.World.{Hub}
 use Rattle.device.proofs.SetUpLaws.{zero-unsound}
 use Rattle.words.specs.Layout.{hubWords, hubOf}
 use Rattle.words.proofs.LayoutLaws.{other-length}

@@ -1,6 +1,7 @@
 // A slot's registers and entries: fixed bits where the slot is in use, reset values where it is not.
-use device::{Entry, Peer, Settings};
-
+use device::Entry;
+use device::Peer;
+use device::Settings;
 ghost use mathlib.Core.Path.{_≡_};
 ghost use Rattle.device.specs.Sound as Sound;
 

@@ -1,6 +1,5 @@
 // The numbers accepted at set-up.
 use device::Settings;
-
 ghost use mathlib.Core.Path.{_≡_};
 ghost use mathlib.Core.Bool.{true};
 ghost use Rattle.device.specs.SetUp as SetUp;

@@ -1,6 +1,6 @@
 // The whole hub: every slot is tested, none is left out early, so that the loops stay free of branches.
-use device::{Peer, Settings};
-
+use device::Peer;
+use device::Settings;
 ghost use mathlib.Core.Path.{_≡_};
 ghost use mathlib.Core.Bool.{_&&_};
 ghost use Prim.Native.Nat.{_<_};

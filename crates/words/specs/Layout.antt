@@ -1,7 +1,7 @@
 -- Which hub an array of 32-bit words is. Only this crate knows the layout: the settings, then eight words for each peer, then the
 -- MSI-X entries in four columns (all address-low words, all address-high, all data, all control).
 use Prim.Native.Nat.{ℕ, _+_, _*_, _^_, _<_}
-use mathlib.Core.Bool.{Bool, true, false, cond}
+use mathlib.Core.Bool.{cond}
 use mathlib.Core.List.{List, []}
 use lib.Dec.{eqb}
 use lib.ListN.{length, getD}
@@ -22,16 +22,17 @@ word ws k = getD ws k 0
 -- the base address is the only number of two words
 unfoldable pub settingsOf : List ℕ → Settings
 settingsOf ws =
-    record
-    { peers = word ws 0
-    ; vectors = word ws 1
-    ; table = word ws 2
-    ; common = word ws 3
-    ; output = word ws 4
-    ; base = word ws 5 + 2 ^ 32 * word ws 6
-    ; protocol = word ws 7
-    ; vendor = word ws 8
-    ; subsystem = word ws 9 }
+    record {
+      peers = word ws 0;
+      vectors = word ws 1;
+      table = word ws 2;
+      common = word ws 3;
+      output = word ws 4;
+      base = word ws 5 + 2 ^ 32 * word ws 6;
+      protocol = word ws 7;
+      vendor = word ws 8;
+      subsystem = word ws 9;
+    }
 
 -- where a peer's eight words begin
 abbrev pub peerStart : ℕ → ℕ
@@ -39,15 +40,16 @@ peerStart i = 10 + 8 * i
 
 unfoldable pub peerOf : List ℕ → ℕ → Peer
 peerOf ws i =
-    record
-    { connected = word ws (peerStart i)
-    ; command = word ws (peerStart i + 1)
-    ; bar0 = word ws (peerStart i + 2)
-    ; bar1 = word ws (peerStart i + 3)
-    ; privileged = word ws (peerStart i + 4)
-    ; message = word ws (peerStart i + 5)
-    ; interrupt = word ws (peerStart i + 6)
-    ; state = word ws (peerStart i + 7) }
+    record {
+      connected = word ws (peerStart i);
+      command = word ws (peerStart i + 1);
+      bar0 = word ws (peerStart i + 2);
+      bar1 = word ws (peerStart i + 3);
+      privileged = word ws (peerStart i + 4);
+      message = word ws (peerStart i + 5);
+      interrupt = word ws (peerStart i + 6);
+      state = word ws (peerStart i + 7);
+    }
 
 -- where an entry's word of a column stands
 abbrev pub entryStart : ℕ → ℕ → ℕ → ℕ
@@ -55,11 +57,12 @@ entryStart column i v = 10 + 8 * maxPeers + column * (maxPeers * maxVectors) + (
 
 unfoldable pub entryOf : List ℕ → ℕ → ℕ → Entry
 entryOf ws i v =
-    record
-    { low = word ws (entryStart 0 i v)
-    ; high = word ws (entryStart 1 i v)
-    ; payload = word ws (entryStart 2 i v)
-    ; control = word ws (entryStart 3 i v) }
+    record {
+      low = word ws (entryStart 0 i v);
+      high = word ws (entryStart 1 i v);
+      payload = word ws (entryStart 2 i v);
+      control = word ws (entryStart 3 i v);
+    }
 
 unfoldable pub slotOf : List ℕ → ℕ → Slot
 slotOf ws i = record { peer = peerOf ws i; entries = tabulate maxVectors (entryOf ws i) }

@@ -1,6 +1,6 @@
 -- `memory::load` meets its contract. The loop's invariant: the bytes passed are pasted over the buffer's.
-use Prim.Native.Nat.{ℕ, suc, _+_, _-_, _≤_, _<_}
-use mathlib.Core.Path.{_≡_, refl, sym, ap, _∙_}
+use Prim.Native.Nat.{ℕ, _-_, _≤_}
+use mathlib.Core.Path.{_≡_, refl, ap, _∙_}
 use native.Mathlib.Omega.{arith}
 use lib.ListN.{length, length-set, drop}
 use lib.Seq.{paste, paste-zero}
@@ -36,10 +36,11 @@ loop-less c = omega arith
 
 loop-again : tie.Need-loop-again Inv-loop μ-loop
 loop-again c =
-    let a = c .before .before .before .args in
-    (omega arith
-    , simp length-set (omega arith)
-    , rw (c .before .before .loop .inv .2) (load-turn (a .buffer .now) (a .region .now) (a .offset) (c .before .before .loop .k) (omega arith) (omega arith)))
+    let a = c .before .before .before .args in (
+      omega arith,
+      simp length-set (omega arith),
+      rw (c .before .before .loop .inv .2) (load-turn (a .buffer .now) (a .region .now) (a .offset) (c .before .before .loop .k) (omega arith) (omega arith)),
+    )
 
 same-length : tie.Need-same-length Inv-loop μ-loop
 same-length c = c .before .loop .inv .1

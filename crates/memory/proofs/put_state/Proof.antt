@@ -1,9 +1,7 @@
 -- `memory::put_state` meets its contract: the part that is lent and comes back is the entry's four bytes.
-use Prim.Native.Nat.{_+_, _*_, _-_, _≤_}
-use mathlib.Core.Path.{_≡_, sym, _∙_}
+use Prim.Native.Nat.{_+_, _*_, _-_}
+use mathlib.Core.Path.{_≡_}
 use native.Mathlib.Omega.{arith}
-use lib.ListN.{length}
-use lib.Seq.{sets-eq}
 use borrow.Author.Needs.{needs}
 use Rattle.common.proofs.ByteLaws.{length-bytes}
 use Rattle.common.specs.Bytes.{bytes}

@@ -1,7 +1,6 @@
 -- `memory::put_word` meets its contract: four stores over four bytes leave the word's bytes.
-use Prim.Native.Nat.{_/_, _%_}
+use Prim.Native.Nat.{_/_}
 use mathlib.Core.Path.{_≡_, _∙_}
-use mathlib.Core.Path.{_≡_}
 use native.Mathlib.Omega.{arith}
 use borrow.Author.Needs.{needs}
 use Rattle.common.specs.Bytes.{bytes}

@@ -1,6 +1,6 @@
 -- `memory::store` meets its contract. The loop's invariant: the bytes passed are pasted over the region's.
-use Prim.Native.Nat.{ℕ, suc, _+_, _-_, _≤_, _<_}
-use mathlib.Core.Path.{_≡_, refl, sym, ap, _∙_}
+use Prim.Native.Nat.{ℕ, _-_, _≤_}
+use mathlib.Core.Path.{_≡_, refl, ap, _∙_}
 use native.Mathlib.Numerals.{add-one}
 use native.Mathlib.Omega.{arith}
 use lib.ListN.{length, length-set}
@@ -37,10 +37,11 @@ loop-less c = omega arith
 loop-again : tie.Need-loop-again Inv-loop μ-loop
 loop-again c =
     let a = c .before .before .before .args in
-    let k = c .before .before .loop .k in
-    (omega arith
-    , simp length-set (omega arith)
-    , rw (c .before .before .loop .inv .2, add-one k) (paste-suc (a .region .now) (a .offset) (a .stored .now) k 0 (omega arith) (omega arith)))
+    let k = c .before .before .loop .k in (
+      omega arith,
+      simp length-set (omega arith),
+      rw (c .before .before .loop .inv .2, add-one k) (paste-suc (a .region .now) (a .offset) (a .stored .now) k 0 (omega arith) (omega arith)),
+    )
 
 same-length : tie.Need-same-length Inv-loop μ-loop
 same-length c = c .before .loop .inv .1

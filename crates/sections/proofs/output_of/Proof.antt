@@ -1,5 +1,5 @@
 -- `sections::output_of` meets its contract: each way out is a law of the search through the output sections.
-use Prim.Native.Nat.{_-_, _+_, _*_, _/_, _≤_, _^_}
+use Prim.Native.Nat.{_-_, _+_}
 use mathlib.Core.Path.{sym}
 use native.Mathlib.Nat.{div-mul-le-self}
 use native.Mathlib.Omega.{arith}
@@ -48,12 +48,13 @@ add-if4-2 : tie.Need-add-if4-2
 add-if4-2 c =
     let a = c .before .before .before .before .before .args in
     let f = accepted-facts (a .s) (c .before .before .before .before .before .pre .0) in
-    omega
-    (arith
-    , table-small _ f
-    , common-small _ f
-    , output-small _ f
-    , div-mul-le-self (a .offset - (a .s .table + a .s .common)) (a .s .output))
+    omega (
+      arith,
+      table-small _ f,
+      common-small _ f,
+      output-small _ f,
+      div-mul-le-self (a .offset - (a .s .table + a .s .common)) (a .s .output),
+    )
 
 add-if4-3 : tie.Need-add-if4-3
 add-if4-3 c = search needs

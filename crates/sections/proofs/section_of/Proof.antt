@@ -1,10 +1,8 @@
 -- `sections::section_of` meets its contract: nothing lies beyond the whole, and the tests are those of the search.
-use Prim.Native.Nat.{_+_, _<_, _^_}
 use mathlib.Core.Path.{sym, _∙_}
 use native.Mathlib.Omega.{arith}
 use borrow.Author.Needs.{needs}
 use Rattle.device.proofs.SetUpLaws.{accepted-facts, table-small, common-small}
-use Rattle.device.specs.SetUp.{total}
 use Rattle.sections.proofs.OutputLaws.{beyond, in-table, in-common, in-outputs}
 use Rattle.sections.proofs.section_of.Statement.{statement}
 use Rattle.sections.proofs.section_of.Tie as tie

@@ -1,7 +1,7 @@
 -- `configuration::read` meets its contract. The loop's invariant: the bytes from `left` on have been read; a read of four bytes or
 -- fewer fits 32 bits. The measure is `left`. Assumes nothing.
 use Prim.Native.Nat.{ℕ, suc, _+_, _-_, _*_, _≤_, _<_, _^_}
-use mathlib.Core.Path.{_≡_, refl, sym, ap, _∙_}
+use mathlib.Core.Path.{_≡_}
 use native.Mathlib.Nat.{lt-of-lt-of-le}
 use native.Mathlib.Omega.{arith}
 use lib.Pow.{pow-mono}
@@ -64,7 +64,7 @@ loop-again c =
     let a = c .before .before .before .args in
     let l = c .before .before .loop .left in
     let e : c .byte-at .result + 256 * c .before .before .loop .value ≡ configurationRead (a .s) (a .p) (a .at + (l - 1)) (a .width - (l - 1)) =
-        rw (c .byte-at .ensures .0, c .before .before .loop .inv .1) (one-more (a .s) (a .p) (a .at) l (a .width) (omega arith) (omega arith)) in
+    rw (c .byte-at .ensures .0, c .before .before .loop .inv .1) (one-more (a .s) (a .p) (a .at) l (a .width) (omega arith) (omega arith)) in
     (omega arith, e, rw e (small (a .s) (a .p) (a .at + (l - 1)) (a .width - (l - 1)) (omega arith)))
 
 returns : tie.Need-returns Inv-loop μ-loop

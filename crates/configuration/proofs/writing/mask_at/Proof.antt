@@ -47,17 +47,21 @@ returns-10 c = (rw (c .match .keys10), search needs)
 
 returns-11 : tie.Need-returns-11
 unfolding maskAt maskIn masks
-returns-11 c =
-    (simp (ne-eqb _ _ (c .match .rest .1)
-    , ne-eqb _ _ (c .match .rest .0 .1)
-    , ne-eqb _ _ (c .match .rest .0 .0 .1)
-    , ne-eqb _ _ (c .match .rest .0 .0 .0 .1)
-    , ne-eqb _ _ (c .match .rest .0 .0 .0 .0 .1)
-    , ne-eqb _ _ (c .match .rest .0 .0 .0 .0 .0 .1)
-    , ne-eqb _ _ (c .match .rest .0 .0 .0 .0 .0 .0 .1)
-    , ne-eqb _ _ (c .match .rest .0 .0 .0 .0 .0 .0 .0 .1)
-    , ne-eqb _ _ (c .match .rest .0 .0 .0 .0 .0 .0 .0 .0 .1)
-    , ne-eqb _ _ (c .match .rest .0 .0 .0 .0 .0 .0 .0 .0 .0 .1)), search needs)
+returns-11 c = (
+  simp (
+    ne-eqb _ _ (c .match .rest .1),
+    ne-eqb _ _ (c .match .rest .0 .1),
+    ne-eqb _ _ (c .match .rest .0 .0 .1),
+    ne-eqb _ _ (c .match .rest .0 .0 .0 .1),
+    ne-eqb _ _ (c .match .rest .0 .0 .0 .0 .1),
+    ne-eqb _ _ (c .match .rest .0 .0 .0 .0 .0 .1),
+    ne-eqb _ _ (c .match .rest .0 .0 .0 .0 .0 .0 .1),
+    ne-eqb _ _ (c .match .rest .0 .0 .0 .0 .0 .0 .0 .1),
+    ne-eqb _ _ (c .match .rest .0 .0 .0 .0 .0 .0 .0 .0 .1),
+    ne-eqb _ _ (c .match .rest .0 .0 .0 .0 .0 .0 .0 .0 .0 .1),
+  ),
+  search needs,
+)
 
 pub mask-at-spec : {M : Type 1} → statement M
 mask-at-spec =

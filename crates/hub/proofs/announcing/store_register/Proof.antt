@@ -1,5 +1,5 @@
 -- `hub::announcing::store_register` meets its contract, register by register.
-use mathlib.Core.Path.{_≡_, refl, sym, ap, _∙_}
+use mathlib.Core.Path.{_≡_, refl, ap, _∙_}
 use lib.Bits.{bitAnd}
 use borrow.Author.Needs.{needs}
 use Rattle.device.specs.Effect.{registerStored, announces, withState, stateValue, rungPeer, rungVector}

@@ -1,20 +1,11 @@
 -- `hub::joining::connect` meets its contract: a refusal is the table's and leaves the words, an accepted connect is its effect.
-use Prim.Native.Nat.{ℕ}
-use mathlib.Core.List.{List}
-use mathlib.Core.Path.{_≡_, refl, sym, ap, _∙_}
-use native.Mathlib.Omega.{arith}
+use mathlib.Core.Path.{refl, sym, _∙_}
 use borrow.Author.Needs.{needs}
-use Rattle.device.proofs.StepLaws.{accepted-effect}
-use Rattle.device.specs.Call.{Act, call}
 use Rattle.device.specs.Effect.{effect}
-use Rattle.device.specs.Refusal.{refusal}
-use Rattle.device.specs.Step.{Outcome, run, runAll}
-use Rattle.device.specs.World.{world}
-use Rattle.device.specs.declared.Reply.{Reply}
+use Rattle.device.specs.Step.{run, runAll}
 use Rattle.words.specs.Layout.{hubOf}
 use Rattle.hub.proofs.RefusalLaws.{connect-refusal}
 use Rattle.hub.proofs.ReplyLaws.{changes-refused, changes-accepted}
-use Rattle.hub.proofs.ReplyLaws.{step-refused, reply-refused, reply-accepted}
 use Rattle.hub.proofs.joining.connect.Statement.{statement}
 use Rattle.hub.proofs.joining.connect.Tie as tie
 

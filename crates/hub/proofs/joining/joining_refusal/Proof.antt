@@ -1,5 +1,4 @@
 -- `hub::joining::joining_refusal` meets its contract: each test leads to its row.
-use Prim.Native.Nat.{_<_}
 use mathlib.Core.Bool.{true, false}
 use mathlib.Core.Path.{_≡_, sym, _∙_}
 use native.Mathlib.Omega.{arith}

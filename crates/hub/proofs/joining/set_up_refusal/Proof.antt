@@ -1,5 +1,4 @@
 -- `hub::joining::set_up_refusal` meets its contract: each test leads to its row.
-use mathlib.Core.Bool.{true, false}
 use mathlib.Core.Path.{_≡_, sym, _∙_}
 use native.Mathlib.Omega.{arith}
 use borrow.Author.Needs.{needs}

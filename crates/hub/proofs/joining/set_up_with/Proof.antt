@@ -6,7 +6,6 @@ use native.Mathlib.Omega.{arith}
 use lib.ListN.{length}
 use borrow.Author.Needs.{needs}
 use Rattle.device.specs.SetUp.{hubAfterSetUp, regionAfterSetUp}
-use Rattle.device.specs.World.{Hub}
 use Rattle.device.specs.declared.Reply.{Reply}
 use Rattle.words.proofs.LayoutLaws.{zero-words}
 use Rattle.words.specs.Layout.{hubOf}
@@ -30,12 +29,13 @@ returns c =
     let e = sym (c .before .before .set-up-refusal .ensures .0) ∙ c .before .if1 .taken in
     let n : c .answered .result .number ≡ 10 = ap (λ (r : Reply). r .number) (c .answered .ensures) in
     let some : c .answered .result .number ≡ 0 → ⊥ = λ z. omega arith in
-    record
-    { reply = c .answered .ensures ∙ ap (λ (k : ℕ). refusedBy k) (sym e)
-    ; hub = ten-other (a .hub .now) (a .region .now) (a .s) e ∙ sym (hub-refused _ (a .s) some)
-    ; region = sym (region-refused _ (a .region .now) some)
-    ; zero = λ p q. absurd (q n)
-    ; kept = λ p. refl }
+    record {
+      reply = c .answered .ensures ∙ ap (λ (k : ℕ). refusedBy k) (sym e);
+      hub = ten-other (a .hub .now) (a .region .now) (a .s) e ∙ sym (hub-refused _ (a .s) some);
+      region = sym (region-refused _ (a .region .now) some);
+      zero = λ p q. absurd (q n);
+      kept = λ p. refl;
+    }
 
 put-zero-requires : tie.Need-put-zero-requires
 put-zero-requires c κs = search needs
@@ -55,12 +55,13 @@ returns-2 c =
     let k = c .before .before .before .before .before .before .before .set-up-refusal .result in
     let n : c .answered2 .result .number ≡ k = ap (λ (r : Reply). r .number) (c .answered2 .ensures) in
     let some : c .answered2 .result .number ≡ 0 → ⊥ = λ z. c .before .before .before .before .before .if2 .taken (sym n ∙ z) in
-    record
-    { reply = c .answered2 .ensures ∙ ap (λ (x : ℕ). refusedBy x) (c .before .before .before .before .before .before .before .set-up-refusal .ensures .0)
-    ; hub = ap (λ (ws : List ℕ). hubOf ws) (c .before .before .before .put-zero .ensures) ∙ zero-words (length (a .hub .now)) ∙ sym (hub-refused _ (a .s) some)
-    ; region = sym (region-refused _ (a .region .now) some)
-    ; zero = λ p q. c .before .before .before .put-zero .ensures
-    ; kept = λ p. absurd (c .before .before .before .before .before .before .if1 .left (sym n ∙ p)) }
+    record {
+      reply = c .answered2 .ensures ∙ ap (λ (x : ℕ). refusedBy x) (c .before .before .before .before .before .before .before .set-up-refusal .ensures .0);
+      hub = ap (λ (ws : List ℕ). hubOf ws) (c .before .before .before .put-zero .ensures) ∙ zero-words (length (a .hub .now)) ∙ sym (hub-refused _ (a .s) some);
+      region = sym (region-refused _ (a .region .now) some);
+      zero = λ p q. c .before .before .before .put-zero .ensures;
+      kept = λ p. absurd (c .before .before .before .before .before .before .if1 .left (sym n ∙ p));
+    }
 
 put-fresh-requires : tie.Need-put-fresh-requires
 put-fresh-requires c κs =
@@ -83,12 +84,13 @@ returns-3 : tie.Need-returns-3
 returns-3 c =
     let a = c .before .before .before .before .before .before .before .before .before .before .before .before .before .before .before .args in
     let n : c .answered3 .result .number ≡ 0 = ap (λ (r : Reply). r .number) (c .answered3 .ensures) in
-    record
-    { reply = c .answered3 .ensures ∙ ap (λ (x : ℕ). refusedBy x) (sym (c .before .before .before .before .before .before .before .before .before .if2 .left) ∙ c .before .before .before .before .before .before .before .before .before .before .before .set-up-refusal .ensures .0)
-    ; hub = c .before .before .before .before .before .before .before .put-fresh .ensures ∙ sym (ap (λ (x : ℕ). hubAfterSetUp x (a .s)) n)
-    ; region = c .before .before .before .clear .ensures ∙ sym (ap (λ (x : ℕ). regionAfterSetUp x (a .region .now)) n)
-    ; zero = λ p q. absurd (p n)
-    ; kept = λ p. absurd (omega arith) }
+    record {
+      reply = c .answered3 .ensures ∙ ap (λ (x : ℕ). refusedBy x) (sym (c .before .before .before .before .before .before .before .before .before .if2 .left) ∙ c .before .before .before .before .before .before .before .before .before .before .before .set-up-refusal .ensures .0);
+      hub = c .before .before .before .before .before .before .before .put-fresh .ensures ∙ sym (ap (λ (x : ℕ). hubAfterSetUp x (a .s)) n);
+      region = c .before .before .before .clear .ensures ∙ sym (ap (λ (x : ℕ). regionAfterSetUp x (a .region .now)) n);
+      zero = λ p q. absurd (p n);
+      kept = λ p. absurd (omega arith);
+    }
 
 pub set-up-with-spec : {M : Type 1} → statement M
 set-up-with-spec =

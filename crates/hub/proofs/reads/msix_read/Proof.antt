@@ -1,6 +1,6 @@
 -- `hub::reads::msix_read` meets its contract: a refusal is the table's, and an accepted read is its effect, in three cases.
-use Prim.Native.Nat.{_/_, _<_, _^_}
-use mathlib.Core.Path.{_≡_, refl, sym, _∙_}
+use Prim.Native.Nat.{_/_, _<_}
+use mathlib.Core.Path.{refl, sym, _∙_}
 use native.Mathlib.Omega.{arith}
 use borrow.Author.Needs.{needs}
 use borrow.Author.Tests.{eqb-true, not-true, not-false, ltb-true}

@@ -1,5 +1,5 @@
 -- `hub::reads::section_question` meets its contract: a refusal is the table's, and an accepted question is its effect.
-use mathlib.Core.Path.{_≡_, sym, _∙_}
+use mathlib.Core.Path.{sym, _∙_}
 use borrow.Author.Needs.{needs}
 use Rattle.device.specs.Effect.{effect}
 use Rattle.words.specs.Layout.{hubOf}

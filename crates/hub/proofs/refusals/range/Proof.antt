@@ -1,7 +1,4 @@
 -- `hub::refusals::range` meets its contract: each test leads to its row.
-use Prim.Native.Nat.{_<_}
-use mathlib.Core.Path.{_≡_}
-use native.Mathlib.Omega.{arith}
 use borrow.Author.Needs.{needs}
 use borrow.Author.Tests.{not-true, not-false, eq-eqb, ne-eqb}
 use Rattle.common.specs.Tests.{first}

@@ -1,7 +1,5 @@
 -- `hub::refusals::space` meets its contract: each test leads to its row. The end of the access is not added up.
-use Prim.Native.Nat.{_+_, _%_, _<_, _≤_}
-use mathlib.Core.Bool.{true, false}
-use mathlib.Core.Path.{_≡_}
+use Prim.Native.Nat.{_+_, _<_, _≤_}
 use native.Mathlib.Omega.{arith}
 use borrow.Author.Tests.{not-true, not-false, eq-eqb, ne-eqb, lt-ltb, le-ltb}
 use Rattle.common.specs.Tests.{first}

@@ -1,6 +1,6 @@
 -- `hub::refusals::store_refusal` meets its contract: the right to store is asked last.
 use mathlib.Core.List.{_++_}
-use mathlib.Core.Path.{_≡_, refl, sym, _∙_}
+use mathlib.Core.Path.{refl, sym, _∙_}
 use borrow.Author.Needs.{needs}
 use borrow.Author.Tests.{not-true, not-false}
 use Rattle.common.proofs.TestLaws.{first-stops, first-goes-on}

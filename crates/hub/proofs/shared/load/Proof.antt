@@ -1,5 +1,5 @@
 -- `hub::shared::load` meets its contract: a refusal is the table's and leaves the buffer, an accepted load fills it.
-use mathlib.Core.Path.{_≡_, refl, sym, ap, _∙_}
+use mathlib.Core.Path.{refl, sym, ap, _∙_}
 use native.Mathlib.Omega.{arith}
 use lib.ListN.{length}
 use borrow.Author.Needs.{needs}
@@ -26,10 +26,11 @@ returns : tie.Need-returns
 returns c =
     let a = c .before .before .before .before .before .before .before .args in
     let n = load-refusal (hubOf (a .hub .now)) (a .region .now) (a .id) (a .offset) (length (a .buffer .now)) ∙ sym (rw (c .before .before .before .region-lent .ensures) at (c .before .before .range-refusal .ensures .0)) in
-    record
-    { reply = c .answered .ensures ∙ reply-refused _ _ (c .before .before .range-refusal .result) n (c .before .if1 .taken)
-    ; filled = λ z. absurd (c .before .if1 .taken (sym (ap (λ (r : Reply). r .number) (c .answered .ensures)) ∙ z))
-    ; kept = λ z. refl }
+    record {
+      reply = c .answered .ensures ∙ reply-refused _ _ (c .before .before .range-refusal .result) n (c .before .if1 .taken);
+      filled = λ z. absurd (c .before .if1 .taken (sym (ap (λ (r : Reply). r .number) (c .answered .ensures)) ∙ z));
+      kept = λ z. refl;
+    }
 
 load-requires : tie.Need-load-requires
 load-requires c κs =
@@ -49,10 +50,11 @@ unfolding effect
 returns-2 c =
     let a = c .before .before .before .before .before .before .before .before .before .before .before .args in
     let n = load-refusal (hubOf (a .hub .now)) (a .region .now) (a .id) (a .offset) (length (a .buffer .now)) ∙ sym (rw (c .before .before .before .before .before .before .before .region-lent .ensures) at (c .before .before .before .before .before .before .range-refusal .ensures .0)) ∙ c .before .before .before .before .before .if1 .left in
-    record
-    { reply = c .answered2 .ensures ∙ reply-accepted _ _ 0 n refl
-    ; filled = λ z. c .before .before .before .load .ensures ∙ sym (ap (λ (o : Outcome). o .loaded) (accepted-effect _ _ n))
-    ; kept = λ z. absurd (z (ap (λ (r : Reply). r .number) (c .answered2 .ensures))) }
+    record {
+      reply = c .answered2 .ensures ∙ reply-accepted _ _ 0 n refl;
+      filled = λ z. c .before .before .before .load .ensures ∙ sym (ap (λ (o : Outcome). o .loaded) (accepted-effect _ _ n));
+      kept = λ z. absurd (z (ap (λ (r : Reply). r .number) (c .answered2 .ensures)));
+    }
 
 pub load-spec : {M : Type 1} → statement M
 load-spec =

@@ -1,7 +1,7 @@
 -- `hub::shared::store` meets its contract: a refusal is the table's, and an accepted store is its effect.
 use Prim.Native.Nat.{ℕ}
 use mathlib.Core.List.{List}
-use mathlib.Core.Path.{_≡_, refl, sym, ap, _∙_}
+use mathlib.Core.Path.{refl, sym, ap, _∙_}
 use native.Mathlib.Omega.{arith}
 use borrow.Author.Needs.{needs}
 use Rattle.device.proofs.StepLaws.{accepted-effect}
@@ -27,9 +27,10 @@ returns : tie.Need-returns
 returns c =
     let a = c .before .before .before .before .before .before .before .args in
     let n = store-refusal (hubOf (a .hub .now)) (a .region .now) (a .id) (a .offset) (a .stored .now) ∙ sym (rw (c .before .before .before .region-lent .ensures) at (c .before .before .store-refusal .ensures .0)) in
-    record
-    { reply = c .answered .ensures ∙ reply-refused _ _ (c .before .before .store-refusal .result) n (c .before .if1 .taken)
-    ; region = sym (ap (λ (o : Outcome). o .world) (step-refused _ _ (c .before .before .store-refusal .result) n (c .before .if1 .taken))) }
+    record {
+      reply = c .answered .ensures ∙ reply-refused _ _ (c .before .before .store-refusal .result) n (c .before .if1 .taken);
+      region = sym (ap (λ (o : Outcome). o .world) (step-refused _ _ (c .before .before .store-refusal .result) n (c .before .if1 .taken)));
+    }
 
 store-requires : tie.Need-store-requires
 store-requires c κs =
@@ -49,11 +50,12 @@ unfolding effect runAll run
 returns-2 c =
     let a = c .before .before .before .before .before .before .before .before .before .before .before .args in
     let n = store-refusal (hubOf (a .hub .now)) (a .region .now) (a .id) (a .offset) (a .stored .now) ∙ sym (rw (c .before .before .before .before .before .before .before .region-lent .ensures) at (c .before .before .before .before .before .before .store-refusal .ensures .0)) ∙ c .before .before .before .before .before .if1 .left in
-    record
-    { reply = c .answered2 .ensures ∙ reply-accepted _ _ 0 n refl
-    ; region =
-    ap (λ (l : List ℕ). world (hubOf (a .hub .now)) l) (c .before .before .before .store .ensures)
-    ∙ sym (ap (λ (o : Outcome). o .world) (accepted-effect _ _ n)) }
+    record {
+      reply = c .answered2 .ensures ∙ reply-accepted _ _ 0 n refl;
+      region =
+          ap (λ (l : List ℕ). world (hubOf (a .hub .now)) l) (c .before .before .before .store .ensures)
+          ∙ sym (ap (λ (o : Outcome). o .world) (accepted-effect _ _ n));
+    }
 
 pub store-spec : {M : Type 1} → statement M
 store-spec =

@@ -1,5 +1,5 @@
 -- `hub::writes::configuration_write` meets its contract: a refusal is the table's, and an accepted write is its effect.
-use mathlib.Core.Path.{_≡_, refl, sym, _∙_}
+use mathlib.Core.Path.{refl, sym, _∙_}
 use native.Mathlib.Omega.{arith}
 use borrow.Author.Needs.{needs}
 use Rattle.device.specs.Call.{Act}

@@ -1,6 +1,6 @@
 -- `soundness::whole::entries_sound` meets its contract. The loop's invariant: the entries passed have been tested.
-use Prim.Native.Nat.{ℕ, _-_, _≤_}
-use mathlib.Core.Path.{_≡_, refl, sym, ap, _∙_}
+use Prim.Native.Nat.{_-_, _≤_}
+use mathlib.Core.Path.{_≡_, refl, sym}
 use native.Mathlib.Numerals.{add-one}
 use native.Mathlib.Omega.{arith}
 use Rattle.common.proofs.TestLaws.{below-suc}

@@ -1,5 +1,5 @@
 -- `soundness::whole::sound` meets its contract: words of another length are the all-zero hub, which is not sound.
-use mathlib.Core.Path.{sym, ap, _∙_}
+use mathlib.Core.Path.{sym, _∙_}
 use borrow.Author.Needs.{needs}
 use Rattle.device.proofs.SetUpLaws.{zero-unsound}
 use Rattle.device.specs.Sound.{sound}
