@@ -4,7 +4,7 @@ use device::Settings;
 ghost use mathlib.Core.Path.{_≡_};
 ghost use mathlib.Core.Bool.{cond};
 ghost use Prim.Native.Nat.{_-_, _+_, _≤_, _<_};
-ghost use Rattle.common.specs.Bytes as Bytes;
+ghost use Rattle.common.specs.Bytes;
 ghost use Rattle.device.specs.Configuration.{within, maskAt, withByte, writtenByte, configurationWritten};
 
 fn mask_at(s: Settings, at: u64) -> u64

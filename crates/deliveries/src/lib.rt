@@ -7,7 +7,7 @@ ghost use mathlib.Core.Path.{_≡_};
 ghost use Prim.Native.Nat.{_<_};
 ghost use mathlib.Core.List.{[]};
 ghost use lib.ListN.{length};
-ghost use Rattle.device.specs.Ring as Ring;
+ghost use Rattle.device.specs.Ring;
 ghost use Rattle.words.specs.Layout.{hubOf};
 ghost use Rattle.gate.specs.RingOutcome.{outcomeList, Usable};
 ghost use Rattle.deliveries.specs.Listed.{listed, Empty, ringBut};

@@ -9,11 +9,11 @@ use Rattle.common.specs.Tests.{first, every, below}
 use Rattle.device.specs.declared.Settings.{Settings}
 use Rattle.device.specs.Call.{Act, call}
 use Rattle.device.specs.Call.Act.{connect, configurationRead, configurationWrite, registerRead, store}
-use Rattle.device.specs.Configuration as Configuration
+use Rattle.device.specs.Configuration
 use Rattle.device.specs.Configuration.{fields, fieldByte, configurationByte, masks, maskIn, maskAt, maskOf, withByte, writtenByte, configurationWritten}
 use Rattle.device.specs.Effect.{effect, rungVector, rungPeer}
 use Rattle.device.specs.Refusal.{lentTo, accessOf, wrongRegion, shortTable, missing, present, wrongWidth, misaligned, outside, forbidden, isConnected, refusal}
-use Rattle.device.specs.Registers as Registers
+use Rattle.device.specs.Registers
 use Rattle.device.specs.Registers.{registerAt, memoryOn, registerValue}
 use Rattle.device.specs.Sections.{outputs, sections, sectionIn, sectionOf, somewhere, mayStore}
 use Rattle.device.specs.SetUp.{total, accepted, freshHub}

@@ -13,16 +13,16 @@ use Rattle.device.specs.declared.Delivery.{Delivery}
 use Rattle.device.specs.declared.Settings.{Settings}
 use Rattle.device.specs.Call.{Call, call}
 use Rattle.device.specs.Call.Act.{connect, disconnect, reset, configurationRead, configurationWrite, registerRead, registerWrite, msixWrite, load, store}
-use Rattle.device.specs.Configuration as Configuration
+use Rattle.device.specs.Configuration
 use Rattle.device.specs.Configuration.{fields, fieldByte, configurationByte, masks, maskIn, maskAt, maskOf, withByte, writtenByte, configurationWritten}
 use Rattle.device.specs.Effect.{announces, registerStored, effect}
 use Rattle.device.specs.History.{Observation, start, observed, deliveriesTo, answerTo}
 use Rattle.device.specs.Msix.{inTable, withWord, msixWritten}
 use Rattle.device.specs.Refusal.{lentTo, accessOf, wrongRegion, shortTable, missing, present, wrongWidth, misaligned, outside, forbidden, isConnected, refusal}
-use Rattle.device.specs.Registers as Registers
+use Rattle.device.specs.Registers
 use Rattle.device.specs.Registers.{registerAt, memoryOn, registerValue}
 use Rattle.device.specs.Ring.{peerId, vector, gateOf, opens, target, deliveryOf, afterDelivery, ringAt, ring, ringFrom}
-use Rattle.device.specs.Ring as Ring
+use Rattle.device.specs.Ring
 use Rattle.device.specs.Sections.{outputs, sections, sectionIn, sectionOf, somewhere, mayStore}
 use Rattle.device.specs.SetUp.{total, accepted, freshHub}
 use Rattle.device.specs.Sizes.{maxPeers, maxVectors}

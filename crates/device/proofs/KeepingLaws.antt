@@ -18,7 +18,7 @@ use Rattle.device.specs.declared.Target.the-variants.{Live, Nobody}
 use Rattle.device.specs.declared.Vector.{Vector}
 use Rattle.device.specs.Effect.{Operation}
 use Rattle.device.specs.Ring.{rung, peerId, vector, opens, target, afterDelivery, ringAt, ring, ringFrom}
-use Rattle.device.specs.Ring as Ring
+use Rattle.device.specs.Ring
 use Rattle.device.specs.Step.{run, runAll}
 use Rattle.device.specs.World.{Hub, Slot, World, world, zeroSlot, slotAt, withSlot}
 

@@ -21,7 +21,7 @@ use Rattle.device.specs.declared.Vector.{Vector}
 use Rattle.device.specs.Effect.{Operation}
 use Rattle.device.specs.History.{Observation, deliveriesTo}
 use Rattle.device.specs.Ring.{Rung, rung, peerId, vector, opens, target, afterDelivery, deliveryOf, ringAt, ring, ringFrom}
-use Rattle.device.specs.Ring as Ring
+use Rattle.device.specs.Ring
 use Rattle.device.specs.Step.{Ran, ran, ranRings, run, runAll}
 use Rattle.device.specs.World.{Slot, World, world, zeroSlot, slotAt, entryAt, withSlot}
 

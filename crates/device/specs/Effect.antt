@@ -13,9 +13,9 @@ use Rattle.device.specs.declared.Settings.{Settings}
 use Rattle.device.specs.declared.Vector.{Vector}
 use Rattle.device.specs.Call.{Act}
 use Rattle.device.specs.Call.Act.{connect, disconnect, reset, configurationRead, configurationWrite, registerRead, registerWrite, msixRead, msixWrite, question, load, store}
-use Rattle.device.specs.Configuration as Configuration
-use Rattle.device.specs.Msix as Msix
-use Rattle.device.specs.Registers as Registers
+use Rattle.device.specs.Configuration
+use Rattle.device.specs.Msix
+use Rattle.device.specs.Registers
 use Rattle.device.specs.Registers.{Register, registerAt, memoryOn}
 use Rattle.device.specs.Ring.{peerId, vector, withInterrupt}
 use Rattle.device.specs.Sections.{noSection, answerOf, sectionOf}
@@ -44,7 +44,7 @@ reads value = record { value = value; answer = noSection; loaded = []; operation
 abbrev pub does : List Operation → Effect
 does operations = record { value = 0; answer = noSection; loaded = []; operations = operations }
 
--- State store, reset and disconnect: the own slot, the four bytes of the State Table entry, then the rings ('One bolt')
+-- State store, reset and disconnect: the own slot, the four bytes of the State Table entry, then the rings
 unfoldable pub announces : ℕ → Slot → List Operation
 announces who slot =
     Operation.own slot ∷ Operation.write (4 * who) (bytes 4 (slot .peer .state)) ∷ Operation.ringOthers ∷ []

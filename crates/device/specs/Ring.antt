@@ -1,4 +1,4 @@
--- 'One bolt': one ring of one vector at one id, and a ring at every other id.
+-- One ring of one vector at one id, and a ring at every other id.
 use Prim.Native.Nat.{ℕ, zero, suc, _+_, _*_, _^_}
 use mathlib.Core.Bool.{Bool, cond, not}
 use mathlib.Core.List.{List, [], _∷_, _++_}

@@ -11,7 +11,7 @@ use Rattle.device.specs.Call.{Call}
 use Rattle.device.specs.Effect.{Effect, Operation, effect}
 use Rattle.device.specs.Refusal.{refusal}
 use Rattle.device.specs.Ring.{Rung, ring}
-use Rattle.device.specs.Ring as Ring
+use Rattle.device.specs.Ring
 use Rattle.device.specs.Sections.{noSection}
 use Rattle.device.specs.World.{World, world, slotAt, withSlot}
 

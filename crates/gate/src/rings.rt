@@ -8,7 +8,7 @@ ghost use mathlib.Core.Bool.{cond};
 ghost use mathlib.Core.Path.{_≡_};
 ghost use Prim.Native.Nat.{_<_};
 ghost use lib.ListN.{length};
-ghost use Rattle.device.specs.Ring as Ring;
+ghost use Rattle.device.specs.Ring;
 ghost use Rattle.device.specs.Sizes.{maxPeers, maxVectors};
 ghost use Rattle.device.specs.World.{slotAt, entryAt};
 ghost use Rattle.words.specs.Layout.{hubWords, hubOf};

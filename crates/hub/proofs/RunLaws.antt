@@ -15,7 +15,7 @@ use Rattle.device.specs.Call.{Call}
 use Rattle.device.specs.Effect.{Operation, registerStored}
 use Rattle.device.specs.Refusal.{refusal}
 use Rattle.device.specs.Registers.{Register, registerAt}
-use Rattle.device.specs.Ring as Ring
+use Rattle.device.specs.Ring
 use Rattle.device.specs.SetUp.{total}
 use Rattle.device.specs.Step.{Outcome, run, runAll, effectIn}
 use Rattle.device.specs.World.{Hub, Slot, world, withSlot}

@@ -7,11 +7,12 @@ use lib.ListN.{length, replicate}
 use Rattle.device.specs.declared.Reply.{Reply}
 use Rattle.device.specs.declared.SectionReply.{SectionReply}
 use Rattle.device.specs.declared.Settings.{Settings}
-use Rattle.device.specs.Call.{Call}
-use Rattle.device.specs.Effect.{Operation}
+use Rattle.device.specs.Call.{Act, Call, call}
+use Rattle.device.specs.Effect.{Operation, announces, does, effect}
+use Rattle.device.specs.Refusal.{Access, Lent, accessOf, lentTo}
 use Rattle.device.specs.SetUp.{setUpRefusal, hubAfterSetUp, regionAfterSetUp}
 use Rattle.device.specs.Step.{runAll, step, replyOf, sectionReplyOf}
-use Rattle.device.specs.World.{world}
+use Rattle.device.specs.World.{Slot, resetSlot, world}
 use Rattle.deliveries.specs.declared.Deliveries.{Deliveries}
 use Rattle.deliveries.specs.Listed.{listed}
 use Rattle.hub.specs.declared.Served.{Served}
@@ -79,3 +80,11 @@ pub record Serves (hub after region regionAfter : List ℕ) (c : Call) (r : Serv
   pub deliveries : listed (r .list) ≡ step (world (hubOf hub) region) c .deliveries
   pub count : r .list .count ≡ length (listed (r .list))
   pub kept : (r .reply .number ≡ 0 → ⊥) → after ≡ hub
+
+-- Reset and disconnect are one call but for what the peer is afterwards: the promise for each call that is lent the same, reaches
+-- for nothing further and has this effect.
+abbrev pub Restarts : List ℕ → List ℕ → List ℕ → List ℕ → ℕ → ℕ → ℕ → Served → Type 0
+Restarts hub after region regionAfter records id connected r =
+    (act : Act) → lentTo act ≡ Lent.regionAndTable records → accessOf act ≡ Access.none →
+    ((s : Settings) (who : ℕ) (slot : Slot) (bytes : List ℕ) → effect s who slot bytes act ≡ does (announces who (resetSlot connected))) →
+    Serves hub after region regionAfter (call id act) r

@@ -8,15 +8,15 @@ ghost use Prim.Native.Nat.{_+_, _*_, _≤_, _<_};
 ghost use lib.ListN.{length};
 ghost use Rattle.common.specs.Bytes.{bytes};
 ghost use Rattle.device.specs.Call.{call};
-ghost use Rattle.device.specs.Call as Call;
+ghost use Rattle.device.specs.Call;
 ghost use Rattle.device.specs.Effect.{announces, registerStored};
-ghost use Rattle.device.specs.Effect as Effect;
+ghost use Rattle.device.specs.Effect;
 ghost use Rattle.device.specs.Registers.{registerAt};
 ghost use Rattle.device.specs.World.{slotAt, resetSlot};
 ghost use Rattle.deliveries.specs.Listed.{listed};
 ghost use Rattle.words.specs.Layout.{hubOf};
 ghost use Rattle.hub.specs.Admission.{Ready};
-ghost use Rattle.hub.specs.Promises.{Runs, Serves};
+ghost use Rattle.hub.specs.Promises.{Restarts, Runs, Serves};
 
 // An answer without deliveries.
 fn silent(number: u32) -> Served
@@ -108,24 +108,26 @@ pub fn register_write(
     served(store_register(hub, region, id, offset, value))
 }
 
-pub fn reset(hub: &mut [u32], region: &mut [u8], records: u64, id: u64) -> Served
-    ensures { λ r. ⌜ Serves (now (hub .entry)) (now (hub .exit)) (now (region .entry)) (now (region .exit)) (call id (Call.Act.reset records)) r ⌝ }
+// Reset and disconnect, which differ in whether the peer stays.
+fn restarted(hub: &mut [u32], region: &mut [u8], records: u64, id: u64, connected: u32) -> Served
+    ensures { λ r. ⌜ Restarts (now (hub .entry)) (now (hub .exit)) (now (region .entry)) (now (region .exit)) records id connected r ⌝ }
 {
     let lent = refusals::both_lent(region.len() as u64, records);
     let number = refusals::admitted(hub, lent, id);
     if number != 0 {
         return silent(number);
     }
-    served(restart(hub, region, id, 1))
+    served(restart(hub, region, id, connected))
+}
+
+pub fn reset(hub: &mut [u32], region: &mut [u8], records: u64, id: u64) -> Served
+    ensures { λ r. ⌜ Serves (now (hub .entry)) (now (hub .exit)) (now (region .entry)) (now (region .exit)) (call id (Call.Act.reset records)) r ⌝ }
+{
+    restarted(hub, region, records, id, 1)
 }
 
 pub fn disconnect(hub: &mut [u32], region: &mut [u8], records: u64, id: u64) -> Served
     ensures { λ r. ⌜ Serves (now (hub .entry)) (now (hub .exit)) (now (region .entry)) (now (region .exit)) (call id (Call.Act.disconnect records)) r ⌝ }
 {
-    let lent = refusals::both_lent(region.len() as u64, records);
-    let number = refusals::admitted(hub, lent, id);
-    if number != 0 {
-        return silent(number);
-    }
-    served(restart(hub, region, id, 0))
+    restarted(hub, region, records, id, 0)
 }

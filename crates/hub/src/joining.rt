@@ -7,7 +7,7 @@ ghost use Rattle.common.specs.Tests.{first};
 ghost use lib.Dec.{eqb};
 ghost use lib.ListN.{length};
 ghost use Rattle.device.specs.Call.{call};
-ghost use Rattle.device.specs.Call as Call;
+ghost use Rattle.device.specs.Call;
 ghost use Rattle.device.specs.SetUp.{setUpRefusal};
 ghost use Rattle.words.specs.Layout.{hubWords, hubOf};
 ghost use Rattle.hub.specs.Admission.{nothingLent, joiningRows, Admitted, SetUpFacts};

@@ -6,7 +6,7 @@ use device::SectionKind;
 use device::SectionReply;
 ghost use mathlib.Core.Path.{_≡_};
 ghost use Rattle.device.specs.Call.{call};
-ghost use Rattle.device.specs.Call as Call;
+ghost use Rattle.device.specs.Call;
 ghost use Rattle.device.specs.Sections.{noSection};
 ghost use Rattle.hub.specs.Promises.{Answers, AnswersQuestion};
 

@@ -4,7 +4,7 @@ use device::Reply;
 ghost use mathlib.Core.Path.{_≡_};
 ghost use lib.ListN.{length};
 ghost use Rattle.device.specs.Call.{call};
-ghost use Rattle.device.specs.Call as Call;
+ghost use Rattle.device.specs.Call;
 ghost use Rattle.hub.specs.Promises.{Loads, Stores};
 
 // Fills the lent buffer, whose length is the load's.

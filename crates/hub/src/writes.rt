@@ -3,7 +3,7 @@ use super::refusals;
 use device::Reply;
 ghost use mathlib.Core.Path.{_≡_};
 ghost use Rattle.device.specs.Call.{call};
-ghost use Rattle.device.specs.Call as Call;
+ghost use Rattle.device.specs.Call;
 ghost use Rattle.hub.specs.Promises.{Changes};
 
 pub fn configuration_write(hub: &mut [u32], id: u64, offset: u64, width: u64, value: u32) -> Reply

@@ -3,7 +3,7 @@ use device::Entry;
 use device::Peer;
 use device::Settings;
 ghost use mathlib.Core.Path.{_≡_};
-ghost use Rattle.device.specs.Sound as Sound;
+ghost use Rattle.device.specs.Sound;
 
 pub fn in_use(s: Settings, i: u64, p: Peer) -> bool
     ensures { λ r. ⌜ r ≡ Sound.inUse s i p ⌝ }

@@ -2,8 +2,8 @@
 use device::Settings;
 ghost use mathlib.Core.Path.{_≡_};
 ghost use mathlib.Core.Bool.{true};
-ghost use Rattle.device.specs.SetUp as SetUp;
-ghost use Rattle.soundness.specs.Parts as Parts;
+ghost use Rattle.device.specs.SetUp;
+ghost use Rattle.soundness.specs.Parts;
 
 // The most bytes that all sections may have together.
 const MOST_BYTES: u64 = 0x40000000;

@@ -7,7 +7,7 @@ ghost use Prim.Native.Nat.{_<_};
 ghost use lib.ListN.{length};
 ghost use Rattle.common.specs.Tests.{below};
 ghost use Rattle.device.specs.Sizes.{maxPeers, maxVectors};
-ghost use Rattle.device.specs.Sound as Sound;
+ghost use Rattle.device.specs.Sound;
 ghost use Rattle.device.specs.World.{slotAt, entryAt};
 ghost use Rattle.words.specs.Layout.{hubWords, hubOf};
 
