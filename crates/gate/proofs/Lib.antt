@@ -1,1 +1,2 @@
+pub mod GateValue
 pub mod RingLaws

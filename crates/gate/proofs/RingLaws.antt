@@ -1,7 +1,7 @@
 -- Laws of one ring: what a target tells, what one ring leaves, and that a ring keeps the settings and delivers at most one
 -- interrupt.
 use Prim.Native.Nat.{ℕ, _≤_, _<_}
-use mathlib.Core.Bool.{Bool, true, false, cond, _&&_}
+use mathlib.Core.Bool.{Bool, true, false, cond, not, _&&_}
 use mathlib.Core.List.{List, [], _∷_}
 use mathlib.Core.Path.{_≡_, refl, ap, _∙_}
 use native.Mathlib.Omega.{arith}
@@ -24,6 +24,7 @@ use Rattle.device.specs.Sizes.{maxPeers, maxVectors}
 use Rattle.device.specs.World.{Hub, slotAt, entryAt, withSlot, withPeer}
 use Rattle.words.proofs.SlotLaws.{slot-kept}
 use Rattle.words.specs.Layout.{hubOf}
+use Rattle.gate.specs.PassedGate.{passedGate}
 use Rattle.gate.specs.RingOutcome.{Usable, disarmed}
 
 -- ids and vectors of a usable hub are those of its words
@@ -41,6 +42,31 @@ usable-kept before after u size same =
 -- a ring's two parts
 pub apart : (hub : Hub) (ds : List Delivery) {r : Rung} → rung hub ds ≡ r → (hub ≡ r .hub) × (ds ≡ r .deliveries)
 apart hub ds e = (ap (λ (r : Rung). r .hub) e, ap (λ (r : Rung). r .deliveries) e)
+
+-- a gate's switches, each as it stands for a delivery
+abbrev switches : Gate → List Bool
+switches g = g .master ∷ g .enabled ∷ not (g .masked) ∷ not (g .silenced) ∷ g .interrupt ∷ []
+
+enabled : (g : Gate) → opens g ≡ true → g .interrupt ≡ true
+unfolding opens
+enabled g o = every-true (switches g) o 4
+
+-- a ring clears the interrupt of a gate exactly where it is delivered in one-shot mode
+cleared : (g : Gate) → (g .interrupt && not (passedGate g .interrupt)) ≡ (opens g && g .oneshot)
+unfolding passedGate
+cleared g = by (opens g) refl
+  where
+    lost : (i : Bool) → (i && not (i && true)) ≡ false
+    lost true = refl
+    lost false = refl
+
+    sent : (b : Bool) → not (not b) ≡ b
+    sent true = refl
+    sent false = refl
+
+    by : (b : Bool) → opens g ≡ b → (g .interrupt && not (g .interrupt && not (opens g && g .oneshot))) ≡ (opens g && g .oneshot)
+    by false o = rw o (lost (g .interrupt))
+    by true o = rw (o, enabled g o) (sent (g .oneshot))
 
 -- the tests that a target passes
 abbrev tests : Hub → PeerId → Vector → List Bool
@@ -79,17 +105,21 @@ module _ (hub : Hub) (t : PeerId) (v : Vector) where
   unanswered e = rw (← e)
 
   module _ (gate : Gate) (at : Live gate ≡ target hub t v) where
-    pub answered : (on : Bool) → opens gate ≡ on
+    by-switches : (on : Bool) → opens gate ≡ on
         → rung (cond (on && gate .oneshot) (disarmed hub (t .0)) hub) (cond on (sent hub t v) []) ≡ ring hub t v
     unfolding ring ringAt afterDelivery
-    answered false o = rw (← at, o)
-    answered true o = rw (← at, o) (ap (λ (h : Hub). rung h (sent hub t v)) (either (gate .oneshot)))
+    by-switches false o = rw (← at, o)
+    by-switches true o = rw (← at, o) (ap (λ (h : Hub). rung h (sent hub t v)) (either (gate .oneshot)))
       where
         either : (b : Bool)
             → cond b (disarmed hub (t .0)) hub
             ≡ withSlot hub (t .0) (cond b (withPeer (slotAt hub (t .0)) (withInterrupt (slotAt hub (t .0) .peer) 0)) (slotAt hub (t .0)))
         either true = refl
         either false = slot-kept hub (t .0)
+
+    pub answered : (on : Bool) → opens gate ≡ on
+        → rung (cond (gate .interrupt && not (passedGate gate .interrupt)) (disarmed hub (t .0)) hub) (cond on (sent hub t v) []) ≡ ring hub t v
+    answered on o = rw (cleared gate, o) (by-switches on o)
 
 -- rings keep the settings, and deliver at most so many interrupts
 pub record Kept (hub : Hub) (n : ℕ) (r : Rung) : Type 0 where

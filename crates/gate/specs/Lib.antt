@@ -1,1 +1,2 @@
+pub mod PassedGate
 pub mod RingOutcome

@@ -55,7 +55,7 @@ fn disarm(hub: &mut [u32], t: PeerId, clear: bool)
     words::put_peer(hub, t.0 as usize, p);
 }
 
-// A ring that is not delivered changes nothing; one that is disarms a target in one-shot mode.
+// The ring passes the target's gate. Where that clears the gate's interrupt, Interrupt Control is cleared with it.
 pub fn ring(hub: &mut [u32], t: PeerId, v: Vector) -> RingOutcome
     requires { ⌜ Usable (now hub) ⌝ }
     ensures hub { λ r. ⌜ hubOf (now (hub .exit)) ≡ Ring.ring (hubOf (now (hub .entry))) t v .hub ⌝ }
@@ -65,9 +65,10 @@ pub fn ring(hub: &mut [u32], t: PeerId, v: Vector) -> RingOutcome
         return RingOutcome::Lost;
     };
     let e = entry_of(hub, t, v);
-    let open = super::opens(gate);
-    disarm(hub, t, open & gate.oneshot);
-    if open {
+    let passed = super::pass_local(gate);
+    let after = passed.gate;
+    disarm(hub, t, gate.interrupt & !after.interrupt);
+    if passed.delivered {
         return RingOutcome::Delivered(super::delivery_of(t, v, e));
     }
     RingOutcome::Lost

@@ -7,6 +7,7 @@ use device::PeerId;
 use device::Vector;
 ghost use mathlib.Core.Path.{_≡_};
 ghost use Rattle.device.specs.Ring.{gateOf, opens, deliveryOf};
+ghost use Rattle.gate.specs.PassedGate.{passedGate};
 
 pub fn gate_of(p: Peer, e: Entry) -> Gate
     ensures { λ r. ⌜ r ≡ gateOf p e ⌝ }
@@ -26,6 +27,21 @@ pub fn opens(g: Gate) -> bool
     ensures { λ r. ⌜ r ≡ opens g ⌝ }
 {
     g.master & g.enabled & !g.masked & !g.silenced & g.interrupt
+}
+
+// The gate after a ring: one that is delivered in one-shot mode clears the interrupt.
+pub fn passed_gate(g: Gate) -> Gate
+    ensures { λ r. ⌜ r ≡ passedGate g ⌝ }
+{
+    let clear = opens(g) & g.oneshot;
+    Gate {
+        master: g.master,
+        enabled: g.enabled,
+        masked: g.masked,
+        silenced: g.silenced,
+        interrupt: g.interrupt & !clear,
+        oneshot: g.oneshot,
+    }
 }
 
 pub fn delivery_of(t: PeerId, v: Vector, e: Entry) -> Delivery
