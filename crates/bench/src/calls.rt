@@ -3,20 +3,10 @@ use super::print;
 use super::state;
 use super::state::Hub;
 
-// The arguments of a set-up, and how many words and bytes are lent to it.
-pub struct Case {
-    pub peers: u64,
-    pub vectors: u64,
-    pub table: u64,
-    pub common: u64,
-    pub output: u64,
-    pub base: u64,
-    pub protocol: u16,
-    pub vendor: u16,
-    pub subsystem: u16,
-    pub words: usize,
-    pub bytes: usize,
-}
+// The numbers of a set-up: N, V, S, R, O and base; then protocol type, subsystem vendor and subsystem id.
+pub type Numbers = [u64; 6];
+
+pub type Ids = [u16; 3];
 
 // The spaces that a guest reads by offset and width.
 pub enum Space {
@@ -30,13 +20,13 @@ fn named(name: &[u8], n: u64) {
     print::number(n);
 }
 
-fn numbers(c: Case) {
-    named(b"set-up N=", c.peers);
-    named(b" V=", c.vectors);
-    named(b" S=", c.table);
-    named(b" R=", c.common);
-    named(b" O=", c.output);
-    named(b" base=", c.base);
+fn numbers(n: Numbers) {
+    named(b"set-up N=", n[0]);
+    named(b" V=", n[1]);
+    named(b" S=", n[2]);
+    named(b" R=", n[3]);
+    named(b" O=", n[4]);
+    named(b" base=", n[5]);
 }
 
 // Whether the words and the region are zero, or hold what they held before the call.
@@ -57,23 +47,11 @@ fn left(hub: &[u32], region: &[u8]) {
     }
 }
 
-fn set_up_lent(hub: &mut [u32], region: &mut [u8], c: Case) {
+fn set_up_lent(hub: &mut [u32], region: &mut [u8], n: Numbers, ids: Ids) {
     state::fill_words(hub, state::OLD_WORD);
     state::fill_bytes(region, state::OLD_BYTE);
-    let r = hub::set_up(
-        hub,
-        region,
-        c.peers,
-        c.vectors,
-        c.table,
-        c.common,
-        c.output,
-        c.base,
-        c.protocol,
-        c.vendor,
-        c.subsystem,
-    );
-    numbers(c);
+    let r = hub::set_up(hub, region, n[0], n[1], n[2], n[3], n[4], n[5], ids[0], ids[1], ids[2]);
+    numbers(n);
     named(b", ", hub.len() as u64);
     named(b" words, ", region.len() as u64);
     print::text(b" bytes: ");
@@ -81,13 +59,11 @@ fn set_up_lent(hub: &mut [u32], region: &mut [u8], c: Case) {
     left(hub, region);
 }
 
-// No case lends more than there is.
-pub fn set_up(hub: &mut [u32], region: &mut [u8], c: Case) {
-    let words = c.words;
-    let bytes = c.bytes;
+// A set-up that is lent so many words and bytes. No case lends more than there is.
+pub fn set_up(hub: &mut [u32], region: &mut [u8], n: Numbers, ids: Ids, words: usize, bytes: usize) {
     if words <= hub.len() {
         if bytes <= region.len() {
-            set_up_lent(&mut hub[..words], &mut region[..bytes], c);
+            set_up_lent(&mut hub[..words], &mut region[..bytes], n, ids);
         }
     }
 }

@@ -5,18 +5,8 @@ use super::calls::Space;
 use super::places;
 use super::state::{Hub, Region};
 
-// The number of bytes of a space.
-fn end(space: Space) -> u64 {
-    match space {
-        Space::Configuration => 256,
-        Space::Registers => 4096,
-        Space::Msix => 4096,
-    }
-}
-
-// Peer 0 is connected, peer 1 is not, and there are two.
-fn alone(hub: &Hub, space: Space) {
-    let end = end(space);
+// Peer 0 is connected, peer 1 is not, and there are two. The space ends at `end`.
+fn alone(hub: &Hub, space: Space, end: u64) {
     calls::read(hub, space, 2, 0, 4);
     calls::read(hub, space, 7, 0, 4);
     calls::read(hub, space, 0x100000000, 0, 4);
@@ -75,12 +65,12 @@ fn widths(hub: &Hub) {
 }
 
 pub fn run(hub: &mut Hub, region: &mut Region) {
-    calls::set_up(hub, region, super::reads::sized());
+    super::reads::set_up(hub, region);
     calls::connect(hub, 0);
     widths(hub);
-    alone(hub, Space::Configuration);
-    alone(hub, Space::Registers);
-    alone(hub, Space::Msix);
+    alone(hub, Space::Configuration, 256);
+    alone(hub, Space::Registers, 4096);
+    alone(hub, Space::Msix, 4096);
     calls::question(hub, 2, 0, 4);
     calls::question(hub, 1, 0, 4);
     together_by(hub, 0);

@@ -1,21 +1,13 @@
 // Reads of the three spaces: values, widths, offsets and ids.
 use super::calls;
-use super::calls::{Case, Space};
+use super::calls::Space;
 use super::places;
-use super::state::{Hub, Region};
+use super::state::{HUB_WORDS, Hub, Region};
 
 // A hub whose numbers all differ.
-pub fn sized() -> Case {
-    let mut c = super::setups::plain();
-    c.vectors = 3;
-    c.common = 8192;
-    c.output = 12288;
-    c.base = 0x12345678000;
-    c.protocol = 0x0201;
-    c.vendor = 0x1234;
-    c.subsystem = 0x5678;
-    c.bytes = 36864;
-    c
+pub fn set_up(hub: &mut Hub, region: &mut Region) {
+    let n = [2, 3, 4096, 8192, 12288, 0x12345678000];
+    calls::set_up(hub, region, n, [0x0201, 0x1234, 0x5678], HUB_WORDS, 36864);
 }
 
 fn configuration(hub: &Hub, id: u64, offset: u64, width: u64) {
@@ -45,7 +37,8 @@ fn connects(hub: &mut Hub) {
     calls::connect(hub, 2);
 }
 
-fn header(hub: &Hub) {
+// Every register of a peer just connected.
+fn fresh(hub: &Hub) {
     configuration(hub, 0, 0x00, 4);
     configuration(hub, 0, 0x00, 2);
     configuration(hub, 0, 0x02, 2);
@@ -65,9 +58,6 @@ fn header(hub: &Hub) {
     configuration(hub, 0, 0x2E, 2);
     configuration(hub, 0, 0x34, 4);
     configuration(hub, 0, 0x3C, 4);
-}
-
-fn capabilities(hub: &Hub) {
     configuration(hub, 0, 0x40, 4);
     configuration(hub, 0, 0x44, 4);
     configuration(hub, 0, 0x48, 4);
@@ -120,6 +110,7 @@ fn registers(hub: &mut Hub) {
     register(hub, 1, 0xFFC);
 }
 
+// The hub has vectors 0 to 2. Last, all of Command but bit 1.
 fn entries(hub: &mut Hub) {
     calls::made(hub, b"address low of 1, vector 1", places::LOW + 5, 0xFEE0000C);
     calls::made(hub, b"address high of 1, vector 1", places::HIGH + 5, 0x00000001);
@@ -137,10 +128,6 @@ fn entries(hub: &mut Hub) {
     msix(hub, 1, 0x3C);
     msix(hub, 1, 0x800);
     msix(hub, 1, 0xFFC);
-}
-
-// All of Command but bit 1.
-fn hidden(hub: &mut Hub) {
     calls::made(hub, b"Command of 1", places::PEERS + 8 + places::COMMAND, 0x0404);
     register(hub, 1, 0x00);
     register(hub, 1, 0x10);
@@ -150,12 +137,10 @@ fn hidden(hub: &mut Hub) {
 }
 
 pub fn run(hub: &mut Hub, region: &mut Region) {
-    calls::set_up(hub, region, sized());
+    set_up(hub, region);
     connects(hub);
-    header(hub);
-    capabilities(hub);
+    fresh(hub);
     written(hub);
     registers(hub);
     entries(hub);
-    hidden(hub);
 }

@@ -24,7 +24,8 @@ fn inside(hub: &Hub) {
     question(hub, 1, 36863, 1);
 }
 
-fn across(hub: &Hub) {
+// Across sections; sums that would lie in a section in 64 bits, and numbers that would in 32 bits; 6 before 8.
+fn outside(hub: &Hub) {
     question(hub, 0, 4095, 2);
     question(hub, 0, 0, 4097);
     question(hub, 0, 12287, 2);
@@ -35,10 +36,6 @@ fn across(hub: &Hub) {
     question(hub, 0, 36864, 1);
     question(hub, 0, 0, 36864);
     question(hub, 0, 0, 36865);
-}
-
-// Sums that would lie in a section in 64 bits, and numbers that would in 32 bits.
-fn wraps(hub: &Hub) {
     question(hub, 0, 0xFFFFFFFFFFFFFFFF, 1);
     question(hub, 0, 0xFFFFFFFFFFFFFFFF, 2);
     question(hub, 0, 0xFFFFFFFFFFFFF000, 8192);
@@ -48,10 +45,6 @@ fn wraps(hub: &Hub) {
     question(hub, 0, 0xFFFFFFFFFFFFFFFF, 0xFFFFFFFFFFFFFFFF);
     question(hub, 0, 0x100000000, 1);
     question(hub, 0, 0, 0x100000001);
-}
-
-// 6 before 8: a range of no bytes is in no section.
-fn empty(hub: &Hub) {
     question(hub, 0, 0, 0);
     question(hub, 0, 12288, 0);
     question(hub, 0, 36864, 0);
@@ -60,11 +53,7 @@ fn empty(hub: &Hub) {
 
 // Two peers connected to a hub with these sections.
 fn joined(hub: &mut Hub, region: &mut Region, common: u64, output: u64, bytes: usize) {
-    let mut c = super::setups::plain();
-    c.common = common;
-    c.output = output;
-    c.bytes = bytes;
-    calls::set_up(hub, region, c);
+    super::setups::set_up(hub, region, [2, 1, 4096, common, output, 0], bytes);
     calls::connect(hub, 0);
     calls::connect(hub, 1);
 }
@@ -89,8 +78,6 @@ fn missing(hub: &mut Hub, region: &mut Region) {
 pub fn run(hub: &mut Hub, region: &mut Region) {
     joined(hub, region, 8192, 12288, 36864);
     inside(hub);
-    across(hub);
-    wraps(hub);
-    empty(hub);
+    outside(hub);
     missing(hub, region);
 }

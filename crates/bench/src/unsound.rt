@@ -67,17 +67,13 @@ fn fixed(hub: &Hub) {
     changed(hub, b"control of 0, vector 0", CONTROL, 2);
 }
 
-// Vectors that the hub does not have, at a connected peer.
-fn vectors(hub: &Hub) {
+// Not at reset: vectors that the hub does not have, a peer that is not connected, slots of ids that the hub does not have.
+fn unused(hub: &Hub) {
     changed(hub, b"address low of 0, vector 1", LOW + 1, 4);
     changed(hub, b"address high of 0, vector 1", HIGH + 1, 1);
     changed(hub, b"data of 0, vector 1", PAYLOAD + 1, 1);
     changed(hub, b"control of 0, vector 1", CONTROL + 1, 0);
     changed(hub, b"control of 0, vector 3", CONTROL + 3, 0);
-}
-
-// A peer that is not connected.
-fn unconnected(hub: &Hub) {
     changed(hub, b"Command of 1", PEERS + 8 + COMMAND, 0x0002);
     changed(hub, b"BAR 0 of 1", PEERS + 8 + BAR_0, 0x1000);
     changed(hub, b"BAR 1 of 1", PEERS + 8 + BAR_1, 0x1000);
@@ -89,10 +85,6 @@ fn unconnected(hub: &Hub) {
     changed(hub, b"address high of 1, vector 0", HIGH + 4, 1);
     changed(hub, b"data of 1, vector 0", PAYLOAD + 4, 1);
     changed(hub, b"control of 1, vector 0", CONTROL + 4, 0);
-}
-
-// Slots of ids that the hub does not have.
-fn unused(hub: &Hub) {
     changed(hub, b"connected of 2", PEERS + 16, 1);
     changed(hub, b"Command of 2", PEERS + 16 + COMMAND, 0x0002);
     changed(hub, b"State of 2", PEERS + 16 + STATE, 1);
@@ -116,18 +108,11 @@ fn lengths(hub: &Hub) {
 }
 
 pub fn run(hub: &mut Hub, region: &mut Region) {
-    let mut c = super::setups::plain();
-    c.common = 4096;
-    c.output = 4096;
-    c.base = 0xFFFFFFFFFFFFC000;
-    c.bytes = 16384;
-    calls::set_up(hub, region, c);
+    super::setups::set_up(hub, region, [2, 1, 4096, 4096, 4096, 0xFFFFFFFFFFFFC000], 16384);
     calls::connect(hub, 0);
     sound(hub);
     numbers(hub);
     fixed(hub);
-    vectors(hub);
-    unconnected(hub);
     unused(hub);
     lengths(hub);
 }
