@@ -50,7 +50,19 @@ fn left(hub: &[u32], region: &[u8]) {
 fn set_up_lent(hub: &mut [u32], region: &mut [u8], n: Numbers, ids: Ids) {
     state::fill_words(hub, state::OLD_WORD);
     state::fill_bytes(region, state::OLD_BYTE);
-    let r = hub::set_up(hub, region, n[0], n[1], n[2], n[3], n[4], n[5], ids[0], ids[1], ids[2]);
+    let r = hub::set_up(
+        hub,
+        region,
+        n[0],
+        n[1],
+        n[2],
+        n[3],
+        n[4],
+        n[5],
+        ids[0],
+        ids[1],
+        ids[2],
+    );
     numbers(n);
     named(b", ", hub.len() as u64);
     named(b" words, ", region.len() as u64);
@@ -60,7 +72,14 @@ fn set_up_lent(hub: &mut [u32], region: &mut [u8], n: Numbers, ids: Ids) {
 }
 
 // A set-up that is lent so many words and bytes. No case lends more than there is.
-pub fn set_up(hub: &mut [u32], region: &mut [u8], n: Numbers, ids: Ids, words: usize, bytes: usize) {
+pub fn set_up(
+    hub: &mut [u32],
+    region: &mut [u8],
+    n: Numbers,
+    ids: Ids,
+    words: usize,
+    bytes: usize,
+) {
     if words <= hub.len() {
         if bytes <= region.len() {
             set_up_lent(&mut hub[..words], &mut region[..bytes], n, ids);

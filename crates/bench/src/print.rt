@@ -1,5 +1,7 @@
 // What the program writes: one line for each case.
-use device::{Reply, SectionKind, SectionReply};
+use device::Reply;
+use device::SectionKind;
+use device::SectionReply;
 use libc::STDOUT_FILENO;
 
 pub fn text(s: &[u8]) {

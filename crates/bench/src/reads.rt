@@ -2,7 +2,9 @@
 use super::calls;
 use super::calls::Space;
 use super::places;
-use super::state::{HUB_WORDS, Hub, Region};
+use super::state::HUB_WORDS;
+use super::state::Hub;
+use super::state::Region;
 
 // A hub whose numbers all differ.
 pub fn set_up(hub: &mut Hub, region: &mut Region) {
@@ -75,11 +77,36 @@ fn fresh(hub: &Hub) {
 
 // Peer 1 with all that can be written set, where peer 0 stays as it was connected.
 fn written(hub: &mut Hub) {
-    calls::made(hub, b"Command of 1", places::PEERS + 8 + places::COMMAND, 0x0406);
-    calls::made(hub, b"BAR 0 of 1", places::PEERS + 8 + places::BAR_0, 0xFFFFF000);
-    calls::made(hub, b"BAR 1 of 1", places::PEERS + 8 + places::BAR_1, 0x12345000);
-    calls::made(hub, b"Privileged Control of 1", places::PEERS + 8 + places::PRIVILEGED, 0x01);
-    calls::made(hub, b"Message Control's high byte of 1", places::PEERS + 8 + places::MESSAGE, 0xC0);
+    calls::made(
+        hub,
+        b"Command of 1",
+        places::PEERS + 8 + places::COMMAND,
+        0x0406,
+    );
+    calls::made(
+        hub,
+        b"BAR 0 of 1",
+        places::PEERS + 8 + places::BAR_0,
+        0xFFFFF000,
+    );
+    calls::made(
+        hub,
+        b"BAR 1 of 1",
+        places::PEERS + 8 + places::BAR_1,
+        0x12345000,
+    );
+    calls::made(
+        hub,
+        b"Privileged Control of 1",
+        places::PEERS + 8 + places::PRIVILEGED,
+        0x01,
+    );
+    calls::made(
+        hub,
+        b"Message Control's high byte of 1",
+        places::PEERS + 8 + places::MESSAGE,
+        0xC0,
+    );
     configuration(hub, 1, 0x04, 4);
     configuration(hub, 1, 0x10, 4);
     configuration(hub, 1, 0x11, 1);
@@ -94,9 +121,24 @@ fn written(hub: &mut Hub) {
 }
 
 fn registers(hub: &mut Hub) {
-    calls::made(hub, b"Interrupt Control of 1", places::PEERS + 8 + places::INTERRUPT, 1);
-    calls::made(hub, b"State of 0", places::PEERS + places::STATE, 0x0A0B0C0D);
-    calls::made(hub, b"State of 1", places::PEERS + 8 + places::STATE, 0x01020304);
+    calls::made(
+        hub,
+        b"Interrupt Control of 1",
+        places::PEERS + 8 + places::INTERRUPT,
+        1,
+    );
+    calls::made(
+        hub,
+        b"State of 0",
+        places::PEERS + places::STATE,
+        0x0A0B0C0D,
+    );
+    calls::made(
+        hub,
+        b"State of 1",
+        places::PEERS + 8 + places::STATE,
+        0x01020304,
+    );
     register(hub, 0, 0x00);
     register(hub, 0, 0x04);
     register(hub, 0, 0x10);
@@ -112,8 +154,18 @@ fn registers(hub: &mut Hub) {
 
 // The hub has vectors 0 to 2. Last, all of Command but bit 1.
 fn entries(hub: &mut Hub) {
-    calls::made(hub, b"address low of 1, vector 1", places::LOW + 5, 0xFEE0000C);
-    calls::made(hub, b"address high of 1, vector 1", places::HIGH + 5, 0x00000001);
+    calls::made(
+        hub,
+        b"address low of 1, vector 1",
+        places::LOW + 5,
+        0xFEE0000C,
+    );
+    calls::made(
+        hub,
+        b"address high of 1, vector 1",
+        places::HIGH + 5,
+        0x00000001,
+    );
     calls::made(hub, b"data of 1, vector 1", places::PAYLOAD + 5, 0x00004043);
     calls::made(hub, b"control of 1, vector 1", places::CONTROL + 5, 0);
     msix(hub, 0, 0x0C);
@@ -128,7 +180,12 @@ fn entries(hub: &mut Hub) {
     msix(hub, 1, 0x3C);
     msix(hub, 1, 0x800);
     msix(hub, 1, 0xFFC);
-    calls::made(hub, b"Command of 1", places::PEERS + 8 + places::COMMAND, 0x0404);
+    calls::made(
+        hub,
+        b"Command of 1",
+        places::PEERS + 8 + places::COMMAND,
+        0x0404,
+    );
     register(hub, 1, 0x00);
     register(hub, 1, 0x10);
     msix(hub, 1, 0x10);

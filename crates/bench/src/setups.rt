@@ -1,8 +1,11 @@
 // Set-up: each number at its bounds, what is lent at its lengths, and which refusal comes first. A State Table smaller than 4N
 // cannot be tried: the smallest that is a multiple of 4096 holds more than eight entries.
 use super::calls;
-use super::calls::{Numbers, Space};
-use super::state::{HUB_WORDS, Hub, Region};
+use super::calls::Numbers;
+use super::calls::Space;
+use super::state::HUB_WORDS;
+use super::state::Hub;
+use super::state::Region;
 
 // N, V, S, R, O and base, and the region's length.
 pub fn set_up(hub: &mut Hub, region: &mut Region, n: Numbers, bytes: usize) {
@@ -75,10 +78,25 @@ fn lengths(hub: &mut Hub, region: &mut Region) {
     set_up(hub, region, [2, 1, 4096, 0, 0, 0xFFFFFFFFFFFFF000], 4095);
     set_up(hub, region, [2, 1, 8192, 0, 0, 0xFFFFFFFFFFFFF000], 8192);
     set_up(hub, region, [2, 1, 8192, 0, 0, 0xFFFFFFFFFFFFE000], 8192);
-    set_up(hub, region, [2, 1, 4096, 8192, 0, 0xFFFFFFFFFFFFE000], 12288);
+    set_up(
+        hub,
+        region,
+        [2, 1, 4096, 8192, 0, 0xFFFFFFFFFFFFE000],
+        12288,
+    );
     set_up(hub, region, [2, 1, 4096, 0, 0, 0xFFFFFFFFFFFFFFFF], 4096);
-    set_up(hub, region, [2, 1, 4096, 0x3FFFF000, 0, 0xFFFFFFFFC0000000], 4096);
-    set_up(hub, region, [2, 1, 4096, 0x3FFFF000, 0, 0xFFFFFFFFC0001000], 4096);
+    set_up(
+        hub,
+        region,
+        [2, 1, 4096, 0x3FFFF000, 0, 0xFFFFFFFFC0000000],
+        4096,
+    );
+    set_up(
+        hub,
+        region,
+        [2, 1, 4096, 0x3FFFF000, 0, 0xFFFFFFFFC0001000],
+        4096,
+    );
     set_up(hub, region, [2, 1, 4096, 0, 0, 0], 4095);
     set_up(hub, region, [2, 1, 4096, 0, 0, 0], 4097);
     set_up(hub, region, [2, 1, 4096, 0, 0, 0], 0);
@@ -89,7 +107,14 @@ fn lengths(hub: &mut Hub, region: &mut Region) {
     calls::set_up(hub, region, [2, 1, 4096, 0, 0, 0], [0, 0, 0], 201, 4095);
     calls::set_up(hub, region, [9, 1, 4096, 0, 0, 0], [0, 0, 0], 201, 4095);
     let mut longer = [0u32; 203];
-    calls::set_up(&mut longer, region, [2, 1, 4096, 0, 0, 0], [0, 0, 0], 203, 4096);
+    calls::set_up(
+        &mut longer,
+        region,
+        [2, 1, 4096, 0, 0, 0],
+        [0, 0, 0],
+        203,
+        4096,
+    );
 }
 
 // Every read by one id.
@@ -103,7 +128,14 @@ fn reads_by(hub: &Hub, id: u64) {
 // All bits of the three numbers that may be anything, seen by a peer. Then: the words that a refused set-up leaves are no hub, and
 // after an accepted one nobody is connected.
 fn afterwards(hub: &mut Hub, region: &mut Region) {
-    calls::set_up(hub, region, [2, 1, 4096, 0, 0, 0], [0xFFFF, 0xFFFF, 0xFFFF], HUB_WORDS, 4096);
+    calls::set_up(
+        hub,
+        region,
+        [2, 1, 4096, 0, 0, 0],
+        [0xFFFF, 0xFFFF, 0xFFFF],
+        HUB_WORDS,
+        4096,
+    );
     calls::connect(hub, 0);
     calls::read(hub, Space::Configuration, 0, 0x08, 4);
     calls::read(hub, Space::Configuration, 0, 0x2C, 4);

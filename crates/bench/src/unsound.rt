@@ -2,7 +2,8 @@
 use super::calls;
 use super::calls::changed;
 use super::places::*;
-use super::state::{Hub, Region};
+use super::state::Hub;
+use super::state::Region;
 
 // Bits that can be written, the free words of peer 0, and its and peer 1's being connected.
 fn sound(hub: &Hub) {
@@ -77,7 +78,12 @@ fn unused(hub: &Hub) {
     changed(hub, b"Command of 1", PEERS + 8 + COMMAND, 0x0002);
     changed(hub, b"BAR 0 of 1", PEERS + 8 + BAR_0, 0x1000);
     changed(hub, b"BAR 1 of 1", PEERS + 8 + BAR_1, 0x1000);
-    changed(hub, b"Privileged Control of 1", PEERS + 8 + PRIVILEGED, 0x01);
+    changed(
+        hub,
+        b"Privileged Control of 1",
+        PEERS + 8 + PRIVILEGED,
+        0x01,
+    );
     changed(hub, b"Message Control of 1", PEERS + 8 + MESSAGE, 0x80);
     changed(hub, b"Interrupt Control of 1", PEERS + 8 + INTERRUPT, 1);
     changed(hub, b"State of 1", PEERS + 8 + STATE, 1);
@@ -108,7 +114,12 @@ fn lengths(hub: &Hub) {
 }
 
 pub fn run(hub: &mut Hub, region: &mut Region) {
-    super::setups::set_up(hub, region, [2, 1, 4096, 4096, 4096, 0xFFFFFFFFFFFFC000], 16384);
+    super::setups::set_up(
+        hub,
+        region,
+        [2, 1, 4096, 4096, 4096, 0xFFFFFFFFFFFFC000],
+        16384,
+    );
     calls::connect(hub, 0);
     sound(hub);
     numbers(hub);
