@@ -3,8 +3,9 @@ use super::print;
 use super::state;
 use super::state::Hub;
 
-// The numbers of a set-up: N, V, S, R, O and base; then protocol type, subsystem vendor and subsystem id.
-pub type Numbers = [u64; 6];
+// The numbers of a set-up: N, V, S, R, O, base and the length of the region that is lent; then protocol type, subsystem vendor
+// and subsystem id.
+pub type Numbers = [u64; 7];
 
 pub type Ids = [u16; 3];
 
@@ -71,15 +72,9 @@ fn set_up_lent(hub: &mut [u32], region: &mut [u8], n: Numbers, ids: Ids) {
     left(hub, region);
 }
 
-// A set-up that is lent so many words and bytes. No case lends more than there is.
-pub fn set_up(
-    hub: &mut [u32],
-    region: &mut [u8],
-    n: Numbers,
-    ids: Ids,
-    words: usize,
-    bytes: usize,
-) {
+// No case lends more words or bytes than there are.
+pub fn set_up(hub: &mut [u32], region: &mut [u8], n: Numbers, ids: Ids, words: usize) {
+    let bytes = n[6] as usize;
     if words <= hub.len() {
         if bytes <= region.len() {
             set_up_lent(&mut hub[..words], &mut region[..bytes], n, ids);

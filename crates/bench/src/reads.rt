@@ -8,8 +8,8 @@ use super::state::Region;
 
 // A hub whose numbers all differ.
 pub fn set_up(hub: &mut Hub, region: &mut Region) {
-    let n = [2, 3, 4096, 8192, 12288, 0x12345678000];
-    calls::set_up(hub, region, n, [0x0201, 0x1234, 0x5678], HUB_WORDS, 36864);
+    let n = [2, 3, 4096, 8192, 12288, 0x12345678000, 36864];
+    calls::set_up(hub, region, n, [0x0201, 0x1234, 0x5678], HUB_WORDS);
 }
 
 fn configuration(hub: &Hub, id: u64, offset: u64, width: u64) {

@@ -53,8 +53,8 @@ fn outside(hub: &Hub) {
 }
 
 // Two peers connected to a hub with these sections.
-fn joined(hub: &mut Hub, region: &mut Region, common: u64, output: u64, bytes: usize) {
-    super::setups::set_up(hub, region, [2, 1, 4096, common, output, 0], bytes);
+fn joined(hub: &mut Hub, region: &mut Region, common: u64, output: u64, bytes: u64) {
+    super::setups::set_up(hub, region, [2, 1, 4096, common, output, 0, bytes]);
     calls::connect(hub, 0);
     calls::connect(hub, 1);
 }

@@ -114,12 +114,7 @@ fn lengths(hub: &Hub) {
 }
 
 pub fn run(hub: &mut Hub, region: &mut Region) {
-    super::setups::set_up(
-        hub,
-        region,
-        [2, 1, 4096, 4096, 4096, 0xFFFFFFFFFFFFC000],
-        16384,
-    );
+    super::setups::set_up(hub, region, [2, 1, 4096, 4096, 4096, 0xFFFFFFFFFFFFC000, 16384]);
     calls::connect(hub, 0);
     sound(hub);
     numbers(hub);

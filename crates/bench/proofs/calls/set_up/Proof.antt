@@ -6,6 +6,9 @@ use borrow.Author.Needs.{needs}
 use Rattle.bench.proofs.calls.set_up.Statement.{statement}
 use Rattle.bench.proofs.calls.set_up.Tie as tie
 
+array-read-bytes : tie.Need-array-read-bytes
+array-read-bytes c = search needs
+
 slice-relend-prefix-set-up-lent : tie.Need-slice-relend-prefix-set-up-lent
 slice-relend-prefix-set-up-lent c = search needs
 
@@ -40,6 +43,7 @@ pub set-up-spec : {M : Type 1} → statement M
 set-up-spec =
     tie.close
     (tie.spec
+    array-read-bytes
     slice-relend-prefix-set-up-lent
     slice-aggregate-set-up-lent
     slice-relend-prefix-set-up-lent-2
