@@ -82,7 +82,7 @@ pub fn set_up(hub: &mut [u32], region: &mut [u8], n: Numbers, ids: Ids, words: u
     }
 }
 
-pub fn connect(hub: &mut Hub, id: u64) {
+fn connect(hub: &mut Hub, id: u64) {
     let before = *hub;
     let r = hub::connect(hub, id);
     named(b"connect ", id);
@@ -102,38 +102,48 @@ fn space_name(space: Space) {
     }
 }
 
-pub fn read(hub: &Hub, space: Space, id: u64, offset: u64, width: u64) {
+fn read(hub: &Hub, space: Space, r: [u64; 3]) {
     space_name(space);
-    named(b" read by ", id);
+    named(b" read by ", r[0]);
     print::text(b" at ");
-    print::hex(offset);
-    named(b" width ", width);
+    print::hex(r[1]);
+    named(b" width ", r[2]);
     print::text(b": ");
-    let r = match space {
-        Space::Configuration => hub::configuration_read(hub, id, offset, width),
-        Space::Registers => hub::register_read(hub, id, offset, width),
-        Space::Msix => hub::msix_read(hub, id, offset, width),
+    let answer = match space {
+        Space::Configuration => hub::configuration_read(hub, r[0], r[1], r[2]),
+        Space::Registers => hub::register_read(hub, r[0], r[1], r[2]),
+        Space::Msix => hub::msix_read(hub, r[0], r[1], r[2]),
     };
-    print::value(r);
+    print::value(answer);
     print::text(b"\n");
 }
 
-pub fn question(hub: &Hub, id: u64, offset: u64, length: u64) {
-    named(b"question by ", id);
-    named(b" at ", offset);
-    named(b" length ", length);
+fn question(hub: &Hub, r: [u64; 3]) {
+    named(b"question by ", r[0]);
+    named(b" at ", r[1]);
+    named(b" length ", r[2]);
     print::text(b": ");
-    print::section(hub::section_question(hub, id, offset, length));
+    print::section(hub::section_question(hub, r[0], r[1], r[2]));
     print::text(b"\n");
 }
 
-// A word put into the hub by hand.
-pub fn made(hub: &mut Hub, name: &[u8], at: usize, w: u32) {
-    state::put(hub, at, w);
-    print::text(name);
-    print::text(b" made ");
+fn place(from: u32, k: u32) -> usize {
+    from as usize + k as usize
+}
+
+// A word of the hub, and what it is made by hand.
+fn word(at: usize, between: &[u8], w: u32) {
+    super::places::name(at as u64);
+    print::text(between);
     print::word(w as u64);
-    print::text(b"h\n");
+    print::text(b"h");
+}
+
+fn made(hub: &mut Hub, from: u32, r: [u32; 2]) {
+    let at = place(from, r[0]);
+    state::put(hub, at, r[1]);
+    word(at, b" made ", r[1]);
+    print::text(b"\n");
 }
 
 // The answers of every read of words that may be no hub.
@@ -166,13 +176,11 @@ fn every_kept(hub: &mut Hub) {
 }
 
 // A copy of the hub with one word changed.
-pub fn changed(hub: &Hub, name: &[u8], at: usize, w: u32) {
+fn changed(hub: &Hub, from: u32, r: [u32; 2]) {
+    let at = place(from, r[0]);
     let mut copy = *hub;
-    state::put(&mut copy, at, w);
-    print::text(name);
-    print::text(b" = ");
-    print::word(w as u64);
-    print::text(b"h");
+    state::put(&mut copy, at, r[1]);
+    word(at, b" = ", r[1]);
     every_kept(&mut copy);
 }
 
@@ -182,4 +190,45 @@ pub fn cut(hub: &Hub, words: &mut [u32]) {
     named(b"words: ", words.len() as u64);
     every(words);
     print::text(b"\n");
+}
+
+// Tables of cases. Connects: ids. Reads: id, offset, width. Questions: id, offset, length. Words: distance from a place, content.
+pub fn connects(hub: &mut Hub, rows: &[u64]) {
+    let mut k = 0;
+    while k < rows.len() {
+        connect(hub, rows[k]);
+        k += 1;
+    }
+}
+
+pub fn reads(hub: &Hub, space: Space, rows: &[[u64; 3]]) {
+    let mut k = 0;
+    while k < rows.len() {
+        read(hub, space, rows[k]);
+        k += 1;
+    }
+}
+
+pub fn questions(hub: &Hub, rows: &[[u64; 3]]) {
+    let mut k = 0;
+    while k < rows.len() {
+        question(hub, rows[k]);
+        k += 1;
+    }
+}
+
+pub fn makes(hub: &mut Hub, from: u32, rows: &[[u32; 2]]) {
+    let mut k = 0;
+    while k < rows.len() {
+        made(hub, from, rows[k]);
+        k += 1;
+    }
+}
+
+pub fn changes(hub: &Hub, from: u32, rows: &[[u32; 2]]) {
+    let mut k = 0;
+    while k < rows.len() {
+        changed(hub, from, rows[k]);
+        k += 1;
+    }
 }

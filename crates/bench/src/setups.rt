@@ -114,12 +114,12 @@ fn lengths(hub: &mut Hub, region: &mut Region) {
     calls::set_up(&mut longer, region, [2, 1, 4096, 0, 0, 0, 4096], [0, 0, 0], 203);
 }
 
-// Every read by one id.
+// The start of every space by one id.
 fn reads_by(hub: &Hub, id: u64) {
-    calls::read(hub, Space::Configuration, id, 0, 4);
-    calls::read(hub, Space::Registers, id, 0, 4);
-    calls::read(hub, Space::Msix, id, 0, 4);
-    calls::question(hub, id, 0, 4);
+    calls::reads(hub, Space::Configuration, &[[id, 0, 4]]);
+    calls::reads(hub, Space::Registers, &[[id, 0, 4]]);
+    calls::reads(hub, Space::Msix, &[[id, 0, 4]]);
+    calls::questions(hub, &[[id, 0, 4]]);
 }
 
 // All bits of the three numbers that may be anything, seen by a peer. Then: the words that a refused set-up leaves are no hub, and
@@ -127,11 +127,10 @@ fn reads_by(hub: &Hub, id: u64) {
 fn afterwards(hub: &mut Hub, region: &mut Region) {
     let ids = [0xFFFF, 0xFFFF, 0xFFFF];
     calls::set_up(hub, region, [2, 1, 4096, 0, 0, 0, 4096], ids, HUB_WORDS);
-    calls::connect(hub, 0);
-    calls::read(hub, Space::Configuration, 0, 0x08, 4);
-    calls::read(hub, Space::Configuration, 0, 0x2C, 4);
+    calls::connects(hub, &[0]);
+    calls::reads(hub, Space::Configuration, &[[0, 0x08, 4], [0, 0x2C, 4]]);
     set_up(hub, region, [9, 1, 4096, 0, 0, 0, 4096]);
-    calls::connect(hub, 0);
+    calls::connects(hub, &[0]);
     reads_by(hub, 0);
     set_up(hub, region, [3, 1, 4096, 0, 0, 0, 4096]);
     reads_by(hub, 0);
