@@ -2,8 +2,10 @@
 // 4 and 5.
 use super::calls;
 use super::calls::Space;
-use super::places::{SETTINGS, V};
-use super::state::{Hub, Region};
+use super::places::SETTINGS;
+use super::places::V;
+use super::state::Hub;
+use super::state::Region;
 
 const LAST: u64 = 0xFFFFFFFFFFFFFFFF;
 

@@ -2,7 +2,9 @@
 use super::calls;
 use super::calls::Space;
 use super::places::*;
-use super::state::{HUB_WORDS, Hub, Region};
+use super::state::HUB_WORDS;
+use super::state::Hub;
+use super::state::Region;
 
 // A hub whose numbers all differ.
 pub fn set_up(hub: &mut Hub, region: &mut Region) {
@@ -96,7 +98,10 @@ fn written(hub: &mut Hub) {
 fn mapped(hub: &mut Hub) {
     calls::makes(hub, PEER_0, &[[STATE, 0x0A0B0C0D]]);
     calls::makes(hub, PEER_1, &[[INTERRUPT, 1], [STATE, 0x01020304]]);
-    registers(hub, &[[0, 0x00, 4], [0, 0x04, 4], [0, 0x10, 4], [0, 0xFFC, 4]]);
+    registers(
+        hub,
+        &[[0, 0x00, 4], [0, 0x04, 4], [0, 0x10, 4], [0, 0xFFC, 4]],
+    );
     let rows = [
         [1, 0x00, 4],
         [1, 0x04, 4],
@@ -111,7 +116,12 @@ fn mapped(hub: &mut Hub) {
 
 // The hub has vectors 0 to 2.
 fn entries(hub: &mut Hub) {
-    let rows = [[LOW, 0xFEE0000C], [HIGH, 1], [PAYLOAD, 0x4043], [CONTROL, 0]];
+    let rows = [
+        [LOW, 0xFEE0000C],
+        [HIGH, 1],
+        [PAYLOAD, 0x4043],
+        [CONTROL, 0],
+    ];
     calls::makes(hub, ENTRY_1_1, &rows);
     let rows = [
         [0, 0x0C, 4],

@@ -1,7 +1,8 @@
 // The section question: where each section starts and ends, and who may store there.
 use super::calls;
 use super::calls::questions;
-use super::state::{Hub, Region};
+use super::state::Hub;
+use super::state::Region;
 
 // State Table 0 to 4095, R/W to 12287, output of 0 to 24575, output of 1 to 36863.
 fn inside(hub: &Hub) {

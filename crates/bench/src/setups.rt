@@ -111,7 +111,13 @@ fn lengths(hub: &mut Hub, region: &mut Region) {
     calls::set_up(hub, region, [2, 1, 4096, 0, 0, 0, 4095], [0, 0, 0], 201);
     calls::set_up(hub, region, [9, 1, 4096, 0, 0, 0, 4095], [0, 0, 0], 201);
     let mut longer = [0u32; 203];
-    calls::set_up(&mut longer, region, [2, 1, 4096, 0, 0, 0, 4096], [0, 0, 0], 203);
+    calls::set_up(
+        &mut longer,
+        region,
+        [2, 1, 4096, 0, 0, 0, 4096],
+        [0, 0, 0],
+        203,
+    );
 }
 
 // The start of every space by one id.

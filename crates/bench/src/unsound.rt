@@ -2,7 +2,8 @@
 use super::calls;
 use super::calls::changes;
 use super::places::*;
-use super::state::{Hub, Region};
+use super::state::Hub;
+use super::state::Region;
 
 // Bits that can be written, and who is connected.
 fn sound(hub: &Hub) {
@@ -19,7 +20,12 @@ fn sound(hub: &Hub) {
         [STATE, 0xFFFFFFFF],
     ];
     changes(hub, PEER_0, &rows);
-    let rows = [[LOW, 0xFFFFFFFC], [HIGH, 0xFFFFFFFF], [PAYLOAD, 0xFFFFFFFF], [CONTROL, 0]];
+    let rows = [
+        [LOW, 0xFFFFFFFC],
+        [HIGH, 0xFFFFFFFF],
+        [PAYLOAD, 0xFFFFFFFF],
+        [CONTROL, 0],
+    ];
     changes(hub, ENTRY_0_0, &rows);
 }
 
@@ -73,7 +79,11 @@ fn fixed(hub: &Hub) {
 
 // Not at reset: a vector that the hub does not have, a peer that is not connected, the slot of an id that the hub does not have.
 fn unused(hub: &Hub) {
-    changes(hub, ENTRY_0_1, &[[LOW, 4], [HIGH, 1], [PAYLOAD, 1], [CONTROL, 0]]);
+    changes(
+        hub,
+        ENTRY_0_1,
+        &[[LOW, 4], [HIGH, 1], [PAYLOAD, 1], [CONTROL, 0]],
+    );
     changes(hub, ENTRY_0_3, &[[CONTROL, 0]]);
     let rows = [
         [COMMAND, 0x0002],
@@ -85,8 +95,16 @@ fn unused(hub: &Hub) {
         [STATE, 1],
     ];
     changes(hub, PEER_1, &rows);
-    changes(hub, ENTRY_1_0, &[[LOW, 4], [HIGH, 1], [PAYLOAD, 1], [CONTROL, 0]]);
-    changes(hub, PEER_2, &[[CONNECTED, 1], [COMMAND, 0x0002], [STATE, 1]]);
+    changes(
+        hub,
+        ENTRY_1_0,
+        &[[LOW, 4], [HIGH, 1], [PAYLOAD, 1], [CONTROL, 0]],
+    );
+    changes(
+        hub,
+        PEER_2,
+        &[[CONNECTED, 1], [COMMAND, 0x0002], [STATE, 1]],
+    );
     changes(hub, ENTRY_2_0, &[[CONTROL, 0]]);
     changes(hub, PEER_7, &[[CONNECTED, 1], [STATE, 1]]);
     changes(hub, ENTRY_7_3, &[[LOW, 4], [CONTROL, 0]]);
@@ -105,7 +123,11 @@ fn lengths(hub: &Hub) {
 }
 
 pub fn run(hub: &mut Hub, region: &mut Region) {
-    super::setups::set_up(hub, region, [2, 1, 4096, 4096, 4096, 0xFFFFFFFFFFFFC000, 16384]);
+    super::setups::set_up(
+        hub,
+        region,
+        [2, 1, 4096, 4096, 4096, 0xFFFFFFFFFFFFC000, 16384],
+    );
     calls::connects(hub, &[0]);
     sound(hub);
     numbers(hub);
