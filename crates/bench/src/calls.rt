@@ -2,6 +2,7 @@
 use super::print;
 use super::state;
 use super::state::Hub;
+use device::Reply;
 
 // The numbers of a set-up: N, V, S, R, O, base and the length of the region that is lent; then protocol type, subsystem vendor
 // and subsystem id.
@@ -48,6 +49,12 @@ fn left(hub: &[u32], region: &[u8]) {
     }
 }
 
+fn lent(words: u64, bytes: u64) {
+    named(b", ", words);
+    named(b" words, ", bytes);
+    print::text(b" bytes: ");
+}
+
 fn set_up_lent(hub: &mut [u32], region: &mut [u8], n: Numbers, ids: Ids) {
     state::fill_words(hub, state::OLD_WORD);
     state::fill_bytes(region, state::OLD_BYTE);
@@ -65,9 +72,7 @@ fn set_up_lent(hub: &mut [u32], region: &mut [u8], n: Numbers, ids: Ids) {
         ids[2],
     );
     numbers(n);
-    named(b", ", hub.len() as u64);
-    named(b" words, ", region.len() as u64);
-    print::text(b" bytes: ");
+    lent(hub.len() as u64, region.len() as u64);
     print::done(r);
     left(hub, region);
 }
@@ -102,6 +107,14 @@ fn space_name(space: Space) {
     }
 }
 
+fn answer(hub: &Hub, space: Space, r: [u64; 3]) -> Reply {
+    match space {
+        Space::Configuration => hub::configuration_read(hub, r[0], r[1], r[2]),
+        Space::Registers => hub::register_read(hub, r[0], r[1], r[2]),
+        Space::Msix => hub::msix_read(hub, r[0], r[1], r[2]),
+    }
+}
+
 fn read(hub: &Hub, space: Space, r: [u64; 3]) {
     space_name(space);
     named(b" read by ", r[0]);
@@ -109,12 +122,7 @@ fn read(hub: &Hub, space: Space, r: [u64; 3]) {
     print::hex(r[1]);
     named(b" width ", r[2]);
     print::text(b": ");
-    let answer = match space {
-        Space::Configuration => hub::configuration_read(hub, r[0], r[1], r[2]),
-        Space::Registers => hub::register_read(hub, r[0], r[1], r[2]),
-        Space::Msix => hub::msix_read(hub, r[0], r[1], r[2]),
-    };
-    print::value(answer);
+    print::value(answer(hub, space, r));
     print::text(b"\n");
 }
 

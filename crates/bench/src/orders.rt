@@ -70,21 +70,27 @@ fn together_by(hub: &Hub, id: u64) {
     calls::questions(hub, &[[id, 0, 0], [id, 36864, 1], [id, 36864, 0]]);
 }
 
-// Last, a hub that is not sound.
-pub fn run(hub: &mut Hub, region: &mut Region) {
-    super::reads::set_up(hub, region);
-    calls::connects(hub, &[0]);
+fn all_alone(hub: &Hub) {
     widths(hub);
     alone(hub, Space::Configuration, 256);
     alone(hub, Space::Registers, 4096);
     alone(hub, Space::Msix, 4096);
     calls::questions(hub, &[[2, 0, 4], [1, 0, 4]]);
+}
+
+fn all_together(hub: &Hub) {
     together_by(hub, 0);
     together_by(hub, 1);
     together_by(hub, 2);
+}
+
+// Last, a hub that is not sound.
+pub fn run(hub: &mut Hub, region: &mut Region) {
+    super::reads::set_up(hub, region);
+    calls::connects(hub, &[0]);
+    all_alone(hub);
+    all_together(hub);
     calls::makes(hub, SETTINGS, &[[V, 5]]);
-    together_by(hub, 0);
-    together_by(hub, 1);
-    together_by(hub, 2);
+    all_together(hub);
     calls::connects(hub, &[0, 1, 2]);
 }

@@ -77,7 +77,7 @@ fn fixed(hub: &Hub) {
     changes(hub, ENTRY_0_0, &[[LOW, 1], [LOW, 2], [CONTROL, 2]]);
 }
 
-// Not at reset: a vector that the hub does not have, a peer that is not connected, the slot of an id that the hub does not have.
+// Not at reset: a vector that the hub does not have, and a peer that is not connected.
 fn unused(hub: &Hub) {
     changes(
         hub,
@@ -100,6 +100,10 @@ fn unused(hub: &Hub) {
         ENTRY_1_0,
         &[[LOW, 4], [HIGH, 1], [PAYLOAD, 1], [CONTROL, 0]],
     );
+}
+
+// Not at reset: the slot of an id that the hub does not have.
+fn empty(hub: &Hub) {
     changes(
         hub,
         PEER_2,
@@ -133,5 +137,6 @@ pub fn run(hub: &mut Hub, region: &mut Region) {
     numbers(hub);
     fixed(hub);
     unused(hub);
+    empty(hub);
     lengths(hub);
 }
