@@ -47,9 +47,9 @@ apart hub ds e = (ap (λ (r : Rung). r .hub) e, ap (λ (r : Rung). r .deliveries
 abbrev switches : Gate → List Bool
 switches g = g .master ∷ g .enabled ∷ not (g .masked) ∷ not (g .silenced) ∷ g .interrupt ∷ []
 
-enabled : (g : Gate) → opens g ≡ true → g .interrupt ≡ true
+interrupt-on : (g : Gate) → opens g ≡ true → g .interrupt ≡ true
 unfolding opens
-enabled g o = every-true (switches g) o 4
+interrupt-on g o = every-true (switches g) o 4
 
 -- a ring clears the interrupt of a gate exactly where it is delivered in one-shot mode
 cleared : (g : Gate) → (g .interrupt && not (passedGate g .interrupt)) ≡ (opens g && g .oneshot)
@@ -60,13 +60,13 @@ cleared g = by (opens g) refl
     lost true = refl
     lost false = refl
 
-    sent : (b : Bool) → not (not b) ≡ b
-    sent true = refl
-    sent false = refl
+    delivered : (o : Bool) → not (not o) ≡ o
+    delivered true = refl
+    delivered false = refl
 
-    by : (b : Bool) → opens g ≡ b → (g .interrupt && not (g .interrupt && not (opens g && g .oneshot))) ≡ (opens g && g .oneshot)
+    by : (b : Bool) → opens g ≡ b → (g .interrupt && not (passedGate g .interrupt)) ≡ (opens g && g .oneshot)
     by false o = rw o (lost (g .interrupt))
-    by true o = rw (o, enabled g o) (sent (g .oneshot))
+    by true o = rw (o, interrupt-on g o) (delivered (g .oneshot))
 
 -- the tests that a target passes
 abbrev tests : Hub → PeerId → Vector → List Bool
