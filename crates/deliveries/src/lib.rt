@@ -4,13 +4,14 @@ use device::PeerId;
 use device::Vector;
 use gate::RingOutcome;
 ghost use mathlib.Core.Path.{_≡_};
-ghost use Prim.Native.Nat.{_<_};
+ghost use Prim.Native.Nat.{_<_, _≤_};
 ghost use mathlib.Core.List.{[]};
-ghost use lib.ListN.{length};
+ghost use lib.ListN.{length, getD};
 ghost use Rattle.device.specs.Ring;
+ghost use Rattle.device.specs.Sizes.{maxPeers};
 ghost use Rattle.words.specs.Layout.{hubOf};
 ghost use Rattle.gate.specs.RingOutcome.{outcomeList, Usable};
-ghost use Rattle.deliveries.specs.Listed.{listed, Empty, ringBut};
+ghost use Rattle.deliveries.specs.Listed.{listed, Empty, ringBut, noDelivery, handedOut};
 
 // A call rings each id at most once.
 pub struct Deliveries {
@@ -94,4 +95,26 @@ pub fn ring_others(hub: &mut [u32], who: u64) -> Deliveries
         i += 1;
     }
     list
+}
+
+// The record of the list at an index.
+fn record_at(list: Deliveries, i: usize) -> Delivery
+    requires { ⌜ i < maxPeers ⌝ }
+    ensures { λ r. ⌜ r ≡ getD (list .records) i noDelivery ⌝ }
+{
+    list.records[i]
+}
+
+// The deliveries written over the lent table from the front, and their count. The later records stay.
+pub fn hand_out(table: &mut [Delivery], list: Deliveries) -> usize
+    requires { ⌜ (list .count ≡ length (listed list)) × (list .count ≤ length (now table)) ⌝ }
+    ensures { λ r. ⌜ (now (table .exit) ≡ handedOut (listed list) (now (table .entry))) × (r ≡ list .count) ⌝ }
+{
+    let n = list.count;
+    let mut i: usize = 0;
+    while i < n {
+        table[i] = record_at(list, i);
+        i += 1;
+    }
+    n
 }
