@@ -1,2 +1,3 @@
+pub mod LentTable
 pub mod Restarting
 pub mod TableLaws

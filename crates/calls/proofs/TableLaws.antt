@@ -1,23 +1,21 @@
 -- The deliveries of an accepted call have room in a table that is not refused, and what is handed out is the step's.
 use Prim.Native.Nat.{ℕ, zero, suc, _≤_, _<_}
 use mathlib.Core.Bool.{Bool, true, false, cond}
-use mathlib.Core.List.{List, [], _∷_, append-nil}
-use mathlib.Core.Logic.{_⊎_, ⊎-elim}
+use mathlib.Core.List.{List, [], append-nil}
 use mathlib.Core.Path.{_≡_, refl, sym, ap, _∙_}
 use native.Mathlib.Nat.{le-trans}
 use native.Mathlib.Omega.{arith}
 use lib.Dec.{ltb}
 use lib.ListN.{length, getD}
-use borrow.Author.Tests.{eqb-true, eqb-false, ltb-false, not-false}
+use borrow.Author.Tests.{ltb-false, not-false}
 use Rattle.common.proofs.TestLaws.{first-none}
 use Rattle.device.specs.declared.Delivery.{Delivery}
 use Rattle.device.specs.declared.Reply.{Reply}
 use Rattle.common.specs.Tests.{row}
 use Rattle.device.specs.Call.{Act, Call, call}
-use Rattle.device.specs.Effect.{Operation, announces, registerStored, effect, rungPeer, rungVector}
+use Rattle.device.specs.Effect.{announces, registerStored, effect, rungPeer, rungVector}
 use Rattle.device.specs.Refusal.{Lent, lentTo, accessOf, checks, shortTable, refusal}
 use Rattle.device.specs.Registers.{Register, registerAt, memoryOn}
-use Rattle.device.specs.Ring.{Rung}
 use Rattle.device.specs.Step.{Outcome, run, runAll, effectIn, step}
 use Rattle.device.specs.World.{Hub, Slot, World, world, slotAt, resetSlot}
 use Rattle.device.proofs.SetUpLaws.{accepted-facts}
@@ -29,7 +27,6 @@ use Rattle.deliveries.specs.Listed.{listed, handedOut}
 use Rattle.hub.specs.declared.Served.{Served}
 use Rattle.hub.specs.Promises.{Serves}
 use Rattle.words.specs.Layout.{hubOf}
-use Rattle.calls.specs.declared.Counted.{Counted}
 use Rattle.calls.specs.Promises.{Fills, HandsOut}
 
 -- at most one ring at each id, in each of the lists of operations that ring
