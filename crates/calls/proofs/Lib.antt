@@ -1,0 +1,3 @@
+pub mod LentTable
+pub mod Restarting
+pub mod TableLaws

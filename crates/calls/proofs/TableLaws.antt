@@ -1,0 +1,111 @@
+-- The deliveries of an accepted call have room in a table that is not refused, and what is handed out is the step's.
+use Prim.Native.Nat.{ℕ, zero, suc, _≤_, _<_}
+use mathlib.Core.Bool.{Bool, true, false, cond}
+use mathlib.Core.List.{List, [], append-nil}
+use mathlib.Core.Path.{_≡_, refl, sym, ap, _∙_}
+use native.Mathlib.Nat.{le-trans}
+use native.Mathlib.Omega.{arith}
+use lib.Dec.{ltb}
+use lib.ListN.{length, getD}
+use borrow.Author.Tests.{ltb-false, not-false}
+use Rattle.common.proofs.TestLaws.{first-none}
+use Rattle.device.specs.declared.Delivery.{Delivery}
+use Rattle.device.specs.declared.Reply.{Reply}
+use Rattle.common.specs.Tests.{row}
+use Rattle.device.specs.Call.{Act, Call, call}
+use Rattle.device.specs.Effect.{announces, registerStored, effect, rungPeer, rungVector}
+use Rattle.device.specs.Refusal.{Lent, lentTo, accessOf, checks, shortTable, refusal}
+use Rattle.device.specs.Registers.{Register, registerAt, memoryOn}
+use Rattle.device.specs.Step.{Outcome, run, runAll, effectIn, step}
+use Rattle.device.specs.World.{Hub, Slot, World, world, slotAt, resetSlot}
+use Rattle.device.proofs.SetUpLaws.{accepted-facts}
+use Rattle.device.proofs.StepLaws.{accepted-effect, refused-changes-nothing, step-number}
+use Rattle.soundness.proofs.WholeLaws.{sound-numbers}
+use Rattle.gate.proofs.RingLaws.{ring-kept}
+use Rattle.deliveries.proofs.ListedLaws.{others-kept}
+use Rattle.deliveries.specs.Listed.{listed, handedOut}
+use Rattle.hub.specs.declared.Served.{Served}
+use Rattle.hub.specs.Promises.{Serves}
+use Rattle.words.specs.Layout.{hubOf}
+use Rattle.calls.specs.Promises.{Fills, HandsOut}
+
+-- at most one ring at each id, in each of the lists of operations that ring
+module _ (who : ℕ) (w : World) (some : 0 < w .hub .settings .peers) where
+  few-announced : (slot : Slot) → length (runAll who w (announces who slot) .deliveries) ≤ w .hub .settings .peers
+  unfolding announces runAll run
+  few-announced slot = rw append-nil (others-kept who _ .few)
+
+  few-stored : (slot : Slot) (r : Register) (value : ℕ) → length (runAll who w (registerStored who slot r value) .deliveries) ≤ w .hub .settings .peers
+  unfolding registerStored runAll run
+  few-stored slot Register.identity value = omega arith
+  few-stored slot Register.maximumPeers value = omega arith
+  few-stored slot Register.interruptControl value = omega arith
+  few-stored slot Register.doorbell value = rw append-nil (le-trans (ring-kept (w .hub) (rungPeer value) (rungVector value) .few) some)
+  few-stored slot Register.state value = few-announced _
+  few-stored slot Register.none value = omega arith
+
+  few-written : (on : Bool) (slot : Slot) (r : Register) (value : ℕ) → length (runAll who w (cond on (registerStored who slot r value) []) .deliveries) ≤ w .hub .settings .peers
+  unfolding runAll
+  few-written true slot r value = few-stored slot r value
+  few-written false slot r value = omega arith
+
+-- an accepted call that is lent a table has a hub with peers, and a record for each
+module _ (h : Hub) (region : List ℕ) (id : ℕ) (act : Act) (n : ℕ) (lent : lentTo act ≡ Lent.regionAndTable n) (e : refusal (world h region) (call id act) ≡ 0) where
+  none : (k : ℕ) → getD (checks (world h region) id (lentTo act) (accessOf act)) k (row 0 false) .holds ≡ false
+  unfolding refusal
+  none = first-none (checks (world h region) id (lentTo act) (accessOf act)) refl e
+
+  peers-some : 0 < h .settings .peers
+  peers-some = let f = accepted-facts (h .settings) (sound-numbers h (not-false _ (none 0))) .two in omega (arith, f)
+
+  table-long : h .settings .peers ≤ n
+  unfolding shortTable
+  table-long = let t : ltb n (h .settings .peers) ≡ false = ap (λ (l : Lent). shortTable (h .settings) l) (sym lent) ∙ none 2 in ltb-false _ _ t
+
+-- a call whose operations deliver no more than one interrupt to each id delivers no more than its table has records
+module _ (h : Hub) (region : List ℕ) (id : ℕ) (act : Act) (n : ℕ) (lent : lentTo act ≡ Lent.regionAndTable n)
+    (few : 0 < h .settings .peers → length (runAll id (world h region) (effectIn (world h region) (call id act) .operations) .deliveries) ≤ h .settings .peers) where
+  room-by : (r : ℕ) → refusal (world h region) (call id act) ≡ r → length (step (world h region) (call id act) .deliveries) ≤ n
+  room-by zero e =
+      let l = few (peers-some h region id act n lent e) in
+      let m = table-long h region id act n lent e in
+      rw (accepted-effect (world h region) (call id act) e) (le-trans l m)
+  room-by (suc r) e = rw (refused-changes-nothing (world h region) (call id act) (λ z. let k : _≡_ {A = ℕ} (suc r) 0 = sym e ∙ z in absurd (omega arith))) (omega arith)
+
+  room : length (step (world h region) (call id act) .deliveries) ≤ n
+  room = room-by (refusal (world h region) (call id act)) refl
+
+module _ (h : Hub) (region : List ℕ) (id n : ℕ) where
+  pub write-room : (offset width value : ℕ) → length (step (world h region) (call id (Act.registerWrite n offset width value)) .deliveries) ≤ n
+  unfolding lentTo effect
+  write-room offset width value = room h region id (Act.registerWrite n offset width value) n refl (λ some. few-written id (world h region) some (memoryOn (slotAt h id .peer)) (slotAt h id) (registerAt offset) value)
+
+  pub reset-room : length (step (world h region) (call id (Act.reset n)) .deliveries) ≤ n
+  unfolding lentTo effect
+  reset-room = room h region id (Act.reset n) n refl (λ some. few-announced id (world h region) some (resetSlot 1))
+
+  pub disconnect-room : length (step (world h region) (call id (Act.disconnect n)) .deliveries) ≤ n
+  unfolding lentTo effect
+  disconnect-room = room h region id (Act.disconnect n) n refl (λ some. few-announced id (world h region) some (resetSlot 0))
+
+pub fills : (hub after region regionAfter : List ℕ) (id : ℕ) (act : ℕ → Act) (records : ℕ) (r : Served) → Serves hub after region regionAfter (call id (act records)) r
+    → length (step (world (hubOf hub) region) (call id (act records)) .deliveries) ≤ records → Fills hub after region regionAfter id act records r
+fills hub after region regionAfter id act records r s l = record { served = s; fits = rw (s .count, s .deliveries) l }
+
+-- a refused step delivers nothing
+refused-nothing : (w : World) (c : Call) → (step w c .number ≡ 0 → ⊥) → step w c .deliveries ≡ []
+refused-nothing w c h = ap (λ (o : Outcome). o .deliveries) (refused-changes-nothing w c (λ z. h (step-number w c ∙ z)))
+
+pub hands-out : (hub after region regionAfter : List ℕ) (table tableAfter : List Delivery) (id : ℕ) (act : ℕ → Act) (r : Served) (count : ℕ)
+    → Fills hub after region regionAfter id act (length table) r → (tableAfter ≡ handedOut (listed (r .list)) table) × (count ≡ r .list .count)
+    → HandsOut hub after region regionAfter table tableAfter id act (record { reply = r .reply; count = count })
+unfolding handedOut
+hands-out hub after region regionAfter table tableAfter id act r count f e =
+    let s = f .served in
+    record {
+      reply = s .reply;
+      left = s .left;
+      table = rw (← s .deliveries) (e .0);
+      count = e .1 ∙ s .count ∙ ap length (s .deliveries);
+      kept = λ h. (s .kept h, e .0 ∙ rw (s .deliveries, refused-nothing (world (hubOf hub) region) (call id (act (length table))) (λ z. h (ap (λ (a : Reply). a .number) (s .reply) ∙ z))) refl);
+    }

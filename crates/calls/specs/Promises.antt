@@ -1,0 +1,29 @@
+-- What the calls with a lent delivery table promise.
+use Prim.Native.Nat.{ℕ, _≤_}
+use mathlib.Core.List.{List}
+use mathlib.Core.Path.{_≡_}
+use lib.ListN.{length}
+use Rattle.device.specs.declared.Delivery.{Delivery}
+use Rattle.device.specs.Call.{Act, call}
+use Rattle.device.specs.Step.{step, replyOf}
+use Rattle.device.specs.World.{world}
+use Rattle.deliveries.specs.Listed.{handedOut}
+use Rattle.hub.specs.declared.Served.{Served}
+use Rattle.hub.specs.Promises.{Serves}
+use Rattle.calls.specs.declared.Counted.{Counted}
+use Rattle.words.specs.Layout.{hubOf}
+
+-- A call by value, for a table of so many records: its deliveries have room there.
+pub record Fills (hub after region regionAfter : List ℕ) (id : ℕ) (act : ℕ → Act) (records : ℕ) (r : Served) : Type 0 where
+  pub served : Serves hub after region regionAfter (call id (act records)) r
+  pub fits : r .list .count ≤ records
+
+-- A call with the table lent. Reply, hub and region are the step's; its deliveries are written over the table from the front, and
+-- their number is returned. A refusal leaves each word and each record as it was.
+pub record HandsOut (hub after region regionAfter : List ℕ) (records recordsAfter : List Delivery) (id : ℕ) (act : ℕ → Act) (r : Counted) :
+    Type 0 where
+  pub reply : r .reply ≡ replyOf (step (world (hubOf hub) region) (call id (act (length records))))
+  pub left : world (hubOf after) regionAfter ≡ step (world (hubOf hub) region) (call id (act (length records))) .world
+  pub table : recordsAfter ≡ handedOut (step (world (hubOf hub) region) (call id (act (length records))) .deliveries) records
+  pub count : r .count ≡ length (step (world (hubOf hub) region) (call id (act (length records))) .deliveries)
+  pub kept : (r .reply .number ≡ 0 → ⊥) → (after ≡ hub) × (recordsAfter ≡ records)
