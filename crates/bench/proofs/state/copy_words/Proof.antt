@@ -1,0 +1,56 @@
+-- `bench::state::copy_words` is safe and ends.
+use Prim.Native.Nat.{_-_}
+use mathlib.Core.Path.{_≡_}
+use lib.ListN.{length}
+use borrow.Author.Needs.{needs}
+use Rattle.bench.proofs.state.copy_words.Statement.{statement}
+use Rattle.bench.proofs.state.copy_words.Tie as tie
+
+abbrev Inv-loop : tie.InvT-loop
+Inv-loop from to₀ k₀ to k = length to ≡ length to₀
+
+abbrev μ-loop : tie.MeasureT-loop
+μ-loop from to₀ k₀ to k = length to₀ - k
+
+loop-holds : tie.Need-loop-holds Inv-loop μ-loop
+loop-holds c = search needs
+
+word-or-zero-requires : tie.Need-word-or-zero-requires Inv-loop μ-loop
+word-or-zero-requires c κs = search needs
+
+mul-to : tie.Need-mul-to Inv-loop μ-loop
+mul-to c = search needs
+
+slice-write-to : tie.Need-slice-write-to Inv-loop μ-loop
+slice-write-to c = search needs
+
+add-k : tie.Need-add-k Inv-loop μ-loop
+add-k c = search needs
+
+loop-less : tie.Need-loop-less Inv-loop μ-loop
+loop-less c = search needs
+
+loop-again : tie.Need-loop-again Inv-loop μ-loop
+loop-again c = search needs
+
+same-length : tie.Need-same-length Inv-loop μ-loop
+same-length c = search needs
+
+returns : tie.Need-returns Inv-loop μ-loop
+returns c = search needs
+
+pub copy-words-spec : {M : Type 1} → statement M
+copy-words-spec =
+    tie.close
+    (tie.spec
+    Inv-loop
+    μ-loop
+    loop-holds
+    word-or-zero-requires
+    mul-to
+    slice-write-to
+    add-k
+    loop-less
+    loop-again
+    same-length
+    returns)
