@@ -44,14 +44,22 @@ fn register(hub: &mut Hub, region: &mut [u8], records: u64, id: u64, offset: u64
     acts::register_write(hub, region, records, id, offset, width, 0x00000009);
 }
 
-fn registers(hub: &mut Hub, region: &mut [u8], records: u64, id: u64) {
+fn alone(hub: &mut Hub, region: &mut [u8], records: u64, id: u64) {
     register(hub, region, records, id, 0x10, 2);
     register(hub, region, records, id, 0x12, 4);
     register(hub, region, records, id, 0x1000, 4);
+}
+
+fn together(hub: &mut Hub, region: &mut [u8], records: u64, id: u64) {
     register(hub, region, records, id, 0x11, 8);
     register(hub, region, records, id, 0x1000, 0);
     register(hub, region, records, id, 0xFFFFFFFFFFFFFFFF, 4);
     register(hub, region, records, id, 0xFFFFFFFFFFFFFFFF, 1);
+}
+
+fn registers(hub: &mut Hub, region: &mut [u8], records: u64, id: u64) {
+    alone(hub, region, records, id);
+    together(hub, region, records, id);
     register(hub, region, records, id, 0x10, 4);
 }
 
@@ -85,7 +93,7 @@ fn shared(hub: &Hub, region: &mut [u8], id: u64) {
 }
 
 // Ids 4 and 2 and, for the writes, every wrong access; then an access that is right but for the id.
-fn ids(hub: &mut Hub, region: &mut [u8]) {
+fn ids(hub: &mut Hub, region: &mut Region) {
     configuration(hub, 0);
     configuration(hub, 2);
     configuration(hub, 4);
@@ -103,7 +111,7 @@ fn ids(hub: &mut Hub, region: &mut [u8]) {
 }
 
 // A table of N - 1 records, then regions that are a byte too short and too long, each with what comes later in the order.
-fn wrong(hub: &mut Hub, region: &mut [u8]) {
+fn wrong(hub: &mut Hub, region: &mut Region) {
     let mut short = [0xA5u8; 36863];
     let mut long = [0xA5u8; 36865];
     tabled(hub, region, 3, 0);
@@ -123,7 +131,7 @@ fn wrong(hub: &mut Hub, region: &mut [u8]) {
 }
 
 // 10 before all others.
-fn unsound(hub: &mut Hub, region: &mut [u8]) {
+fn unsound(hub: &mut Hub, region: &mut Region) {
     let mut short = [0xA5u8; 36863];
     calls::made(hub, b"V", places::V, 5);
     configuration(hub, 0);
@@ -138,7 +146,7 @@ fn unsound(hub: &mut Hub, region: &mut [u8]) {
 }
 
 // Tables of exactly N records and of more, also of a number that would be less than N in 32 bits.
-fn enough(hub: &mut Hub, region: &mut [u8]) {
+fn enough(hub: &mut Hub, region: &mut Region) {
     register(hub, region, 4, 1, 0x10, 4);
     register(hub, region, 5, 1, 0x10, 4);
     register(hub, region, 0x100000000, 1, 0x10, 4);
