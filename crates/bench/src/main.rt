@@ -1,13 +1,21 @@
 // Runs the bench cases and writes one line for each.
+mod acts;
 mod calls;
+mod kept;
+mod lent;
 mod orders;
 mod places;
 mod print;
 mod reads;
+mod restarts;
+mod rings;
 mod sections;
 mod setups;
+mod shared;
 mod state;
+mod stores;
 mod unsound;
+mod writes;
 
 fn main() {
     let mut hub = [0u32; state::HUB_WORDS];
@@ -17,4 +25,10 @@ fn main() {
     sections::run(&mut hub, &mut region);
     orders::run(&mut hub, &mut region);
     unsound::run(&mut hub, &mut region);
+    writes::run(&mut hub, &mut region);
+    stores::run(&mut hub, &mut region);
+    rings::run(&mut hub, &mut region);
+    restarts::run(&mut hub, &mut region);
+    shared::run(&mut hub, &mut region);
+    lent::run(&mut hub, &mut region);
 }

@@ -1,4 +1,6 @@
 // What the program writes: one line for each case.
+use deliveries::Deliveries;
+use device::Delivery;
 use device::Reply;
 use device::SectionKind;
 use device::SectionReply;
@@ -126,5 +128,54 @@ pub fn section(r: SectionReply) {
         text(b", yes");
     } else {
         text(b", no");
+    }
+}
+
+// Eight bytes.
+pub fn double(n: u64) {
+    word(n / 0x100000000);
+    word(n);
+}
+
+fn delivery(d: Delivery) {
+    let target = d.target;
+    let vector = d.vector;
+    text(b" (");
+    decimal(target.0 as u64);
+    text(b", ");
+    decimal(vector.0 as u64);
+    text(b", ");
+    double(d.address);
+    text(b"h, ");
+    word(d.payload as u64);
+    text(b"h)");
+}
+
+// The deliveries of a call, in ring order.
+pub fn delivered(list: Deliveries) {
+    let count = list.count;
+    let records = list.records;
+    if count > 0 {
+        text(b", delivered");
+    }
+    let mut k = 0;
+    while k < device::MAX_PEERS {
+        if k < count {
+            delivery(records[k]);
+        }
+        k += 1;
+    }
+}
+
+fn wide(b: u8) -> u64 {
+    b as u64
+}
+
+pub fn bytes(b: &[u8]) {
+    let mut k = 0;
+    while k < b.len() {
+        text(b" ");
+        byte(wide(b[k]));
+        k += 1;
     }
 }

@@ -1,0 +1,197 @@
+// Rings: which are delivered, which are lost, and what they change.
+use super::acts;
+use super::acts::configuration_write;
+use super::acts::msix_write;
+use super::calls;
+use super::calls::Space;
+use super::print;
+use super::state::Hub;
+use super::state::Region;
+
+pub fn set_up(hub: &mut Hub, region: &mut Region) {
+    super::setups::set_up(hub, region, [4, 2, 4096, 16384, 4096, 0, 36864]);
+    calls::connect(hub, 0);
+    calls::connect(hub, 1);
+    calls::connect(hub, 3);
+}
+
+fn register(hub: &mut Hub, region: &mut Region, id: u64, offset: u64, value: u32) {
+    acts::register_write(hub, region, 4, id, offset, 4, value);
+}
+
+pub fn interrupt(hub: &Hub, id: u64) {
+    calls::read(hub, Space::Registers, id, 0x08, 4);
+}
+
+// All switches on, call by call.
+fn switched(hub: &mut Hub, region: &mut Region, id: u64, payload: u32) {
+    configuration_write(hub, id, 0x04, 2, 0x0006);
+    configuration_write(hub, id, 0x62, 2, 0x8000);
+    msix_write(hub, id, 0x00, 4, 0xFEE00000);
+    msix_write(hub, id, 0x08, 4, payload);
+    msix_write(hub, id, 0x0C, 4, 0);
+    register(hub, region, id, 0x08, 1);
+}
+
+// The same in one line.
+pub fn all_on(hub: &mut Hub, region: &mut Region, id: u64, payload: u32) {
+    hub::configuration_write(hub, id, 0x04, 2, 0x0006);
+    hub::configuration_write(hub, id, 0x62, 2, 0x8000);
+    hub::msix_write(hub, id, 0x00, 4, 0xFEE00000);
+    hub::msix_write(hub, id, 0x08, 4, payload);
+    hub::msix_write(hub, id, 0x0C, 4, 0);
+    hub::register_write(hub, region, 8, id, 0x08, 4, 1);
+    print::text(b"all switches on at ");
+    print::decimal(id);
+    print::text(b", data ");
+    print::word(payload as u64);
+    print::text(b"h\n");
+}
+
+// The list of the rules: peer 3 alone is one-shot.
+fn whole_list(hub: &mut Hub, region: &mut Region) {
+    switched(hub, region, 0, 0x40);
+    switched(hub, region, 3, 0x43);
+    configuration_write(hub, 3, 0x43, 1, 0x01);
+    configuration_write(hub, 1, 0x04, 1, 0x02);
+    register(hub, region, 1, 0x10, 5);
+    let mut buffer = [0u8; 8];
+    acts::load(hub, region, 1, 0, &mut buffer);
+    interrupt(hub, 0);
+    interrupt(hub, 1);
+    interrupt(hub, 3);
+    calls::read(hub, Space::Registers, 1, 0x10, 4);
+    register(hub, region, 1, 0x10, 5);
+    interrupt(hub, 3);
+}
+
+// The target is disarmed and not the sender; a masked ring does not disarm, and is not sent at unmask.
+fn one_shot(hub: &mut Hub, region: &mut Region) {
+    configuration_write(hub, 0, 0x43, 1, 0x01);
+    register(hub, region, 3, 0x08, 1);
+    register(hub, region, 0, 0x0C, 0x00030000);
+    interrupt(hub, 0);
+    interrupt(hub, 3);
+    register(hub, region, 0, 0x0C, 0x00030000);
+    register(hub, region, 3, 0x08, 1);
+    msix_write(hub, 3, 0x0C, 4, 1);
+    register(hub, region, 1, 0x0C, 0x00030000);
+    register(hub, region, 1, 0x10, 5);
+    interrupt(hub, 0);
+    interrupt(hub, 3);
+    msix_write(hub, 3, 0x0C, 4, 0);
+    interrupt(hub, 3);
+    calls::read(hub, Space::Msix, 3, 0x800, 4);
+    register(hub, region, 1, 0x08, 1);
+    register(hub, region, 1, 0x0C, 0x00030000);
+    interrupt(hub, 1);
+    interrupt(hub, 3);
+    configuration_write(hub, 3, 0x43, 1, 0);
+    register(hub, region, 3, 0x08, 1);
+}
+
+// Peer 1 rings vector 0 at peer 3.
+fn ring(hub: &mut Hub, region: &mut Region) {
+    register(hub, region, 1, 0x0C, 0x00030000);
+}
+
+// Each switch off alone, and on again.
+fn switches(hub: &mut Hub, region: &mut Region) {
+    ring(hub, region);
+    configuration_write(hub, 3, 0x04, 1, 0x02);
+    ring(hub, region);
+    configuration_write(hub, 3, 0x04, 1, 0x06);
+    ring(hub, region);
+    configuration_write(hub, 3, 0x63, 1, 0x00);
+    ring(hub, region);
+    configuration_write(hub, 3, 0x63, 1, 0xC0);
+    ring(hub, region);
+    configuration_write(hub, 3, 0x63, 1, 0x80);
+    ring(hub, region);
+    msix_write(hub, 3, 0x0C, 4, 1);
+    ring(hub, region);
+    msix_write(hub, 3, 0x0C, 4, 0);
+    ring(hub, region);
+    register(hub, region, 3, 0x08, 0);
+    ring(hub, region);
+    register(hub, region, 3, 0x08, 1);
+    ring(hub, region);
+    configuration_write(hub, 3, 0x04, 1, 0x04);
+    ring(hub, region);
+    configuration_write(hub, 3, 0x04, 1, 0x06);
+}
+
+// Nobody there: not connected, no such id, no such vector; ids and vectors that would be there in eight bits.
+fn nobody(hub: &mut Hub, region: &mut Region) {
+    register(hub, region, 1, 0x0C, 0x00020000);
+    register(hub, region, 1, 0x0C, 0x00040000);
+    register(hub, region, 1, 0x0C, 0x00080000);
+    register(hub, region, 1, 0x0C, 0x01030000);
+    register(hub, region, 1, 0x0C, 0xFFFF0000);
+    register(hub, region, 1, 0x0C, 0x00030002);
+    register(hub, region, 1, 0x0C, 0x00030004);
+    register(hub, region, 1, 0x0C, 0x00030100);
+    register(hub, region, 1, 0x0C, 0x0003FFFF);
+    register(hub, region, 1, 0x0C, 0x00030001);
+}
+
+// Vector 1 with an address of 64 bits; a peer that rings itself; a sender whose Command bit 1 is off.
+fn others(hub: &mut Hub, region: &mut Region) {
+    msix_write(hub, 3, 0x10, 4, 0xFEE01000);
+    msix_write(hub, 3, 0x14, 4, 0x00000001);
+    msix_write(hub, 3, 0x18, 4, 0x00004099);
+    msix_write(hub, 3, 0x1C, 4, 0);
+    register(hub, region, 1, 0x0C, 0x00030001);
+    ring(hub, region);
+    register(hub, region, 3, 0x0C, 0x00030001);
+    configuration_write(hub, 3, 0x43, 1, 0x01);
+    register(hub, region, 3, 0x0C, 0x00030000);
+    interrupt(hub, 3);
+    register(hub, region, 3, 0x0C, 0x00030000);
+    register(hub, region, 3, 0x08, 1);
+    configuration_write(hub, 1, 0x04, 1, 0x04);
+    ring(hub, region);
+    register(hub, region, 1, 0x10, 6);
+    configuration_write(hub, 1, 0x04, 1, 0x02);
+    calls::read(hub, Space::Registers, 1, 0x10, 4);
+    configuration_write(hub, 0, 0x43, 1, 0);
+    register(hub, region, 0, 0x08, 1);
+    register(hub, region, 0, 0x10, 7);
+    interrupt(hub, 0);
+    interrupt(hub, 3);
+}
+
+fn joined(hub: &mut Hub, region: &mut Region, id: u64, payload: u32) {
+    calls::connect(hub, id);
+    all_on(hub, region, id, payload);
+}
+
+// Eight peers, each rung by the others.
+fn eight(hub: &mut Hub, region: &mut Region) {
+    super::setups::set_up(hub, region, [8, 4, 4096, 0, 4096, 0, 36864]);
+    joined(hub, region, 0, 0x40);
+    joined(hub, region, 1, 0x41);
+    joined(hub, region, 2, 0x42);
+    joined(hub, region, 3, 0x43);
+    joined(hub, region, 4, 0x44);
+    joined(hub, region, 5, 0x45);
+    joined(hub, region, 6, 0x46);
+    joined(hub, region, 7, 0x47);
+    acts::register_write(hub, region, 8, 7, 0x10, 4, 0x01020304);
+    acts::register_write(hub, region, 8, 3, 0x10, 4, 0x05060708);
+    acts::register_write(hub, region, 8, 0, 0x0C, 4, 0x00070000);
+    let mut buffer = [0u8; 8];
+    acts::load(hub, region, 0, 8, &mut buffer);
+    acts::load(hub, region, 0, 24, &mut buffer);
+    acts::load(hub, region, 0, 32, &mut buffer);
+}
+
+pub fn run(hub: &mut Hub, region: &mut Region) {
+    set_up(hub, region);
+    whole_list(hub, region);
+    one_shot(hub, region);
+    switches(hub, region);
+    nobody(hub, region);
+    others(hub, region);
+    eight(hub, region);
+}
