@@ -2,7 +2,6 @@
 use super::print;
 use super::state;
 use super::state::Hub;
-use device::Reply;
 
 // The numbers of a set-up: N, V, S, R, O, base and the length of the region that is lent; then protocol type, subsystem vendor
 // and subsystem id.
@@ -49,12 +48,6 @@ fn left(hub: &[u32], region: &[u8]) {
     }
 }
 
-fn lent(words: u64, bytes: u64) {
-    named(b", ", words);
-    named(b" words, ", bytes);
-    print::text(b" bytes: ");
-}
-
 fn set_up_lent(hub: &mut [u32], region: &mut [u8], n: Numbers, ids: Ids) {
     state::fill_words(hub, state::OLD_WORD);
     state::fill_bytes(region, state::OLD_BYTE);
@@ -72,7 +65,9 @@ fn set_up_lent(hub: &mut [u32], region: &mut [u8], n: Numbers, ids: Ids) {
         ids[2],
     );
     numbers(n);
-    lent(hub.len() as u64, region.len() as u64);
+    named(b", ", hub.len() as u64);
+    named(b" words, ", region.len() as u64);
+    print::text(b" bytes: ");
     print::done(r);
     left(hub, region);
 }
@@ -87,7 +82,7 @@ pub fn set_up(hub: &mut [u32], region: &mut [u8], n: Numbers, ids: Ids, words: u
     }
 }
 
-fn connect(hub: &mut Hub, id: u64) {
+pub fn connect(hub: &mut Hub, id: u64) {
     let before = *hub;
     let r = hub::connect(hub, id);
     named(b"connect ", id);
@@ -107,51 +102,38 @@ fn space_name(space: Space) {
     }
 }
 
-fn answer(hub: &Hub, space: Space, r: [u64; 3]) -> Reply {
-    match space {
-        Space::Configuration => hub::configuration_read(hub, r[0], r[1], r[2]),
-        Space::Registers => hub::register_read(hub, r[0], r[1], r[2]),
-        Space::Msix => hub::msix_read(hub, r[0], r[1], r[2]),
-    }
-}
-
-fn read(hub: &Hub, space: Space, r: [u64; 3]) {
+pub fn read(hub: &Hub, space: Space, id: u64, offset: u64, width: u64) {
     space_name(space);
-    named(b" read by ", r[0]);
+    named(b" read by ", id);
     print::text(b" at ");
-    print::hex(r[1]);
-    named(b" width ", r[2]);
+    print::hex(offset);
+    named(b" width ", width);
     print::text(b": ");
-    print::value(answer(hub, space, r));
+    let r = match space {
+        Space::Configuration => hub::configuration_read(hub, id, offset, width),
+        Space::Registers => hub::register_read(hub, id, offset, width),
+        Space::Msix => hub::msix_read(hub, id, offset, width),
+    };
+    print::value(r);
     print::text(b"\n");
 }
 
-fn question(hub: &Hub, r: [u64; 3]) {
-    named(b"question by ", r[0]);
-    named(b" at ", r[1]);
-    named(b" length ", r[2]);
+pub fn question(hub: &Hub, id: u64, offset: u64, length: u64) {
+    named(b"question by ", id);
+    named(b" at ", offset);
+    named(b" length ", length);
     print::text(b": ");
-    print::section(hub::section_question(hub, r[0], r[1], r[2]));
+    print::section(hub::section_question(hub, id, offset, length));
     print::text(b"\n");
 }
 
-fn place(from: u32, k: u32) -> usize {
-    from as usize + k as usize
-}
-
-// A word of the hub, and what it is made by hand.
-fn word(at: usize, between: &[u8], w: u32) {
-    super::places::name(at as u64);
-    print::text(between);
+// A word put into the hub by hand.
+pub fn made(hub: &mut Hub, name: &[u8], at: usize, w: u32) {
+    state::put(hub, at, w);
+    print::text(name);
+    print::text(b" made ");
     print::word(w as u64);
-    print::text(b"h");
-}
-
-fn made(hub: &mut Hub, from: u32, r: [u32; 2]) {
-    let at = place(from, r[0]);
-    state::put(hub, at, r[1]);
-    word(at, b" made ", r[1]);
-    print::text(b"\n");
+    print::text(b"h\n");
 }
 
 // The answers of every read of words that may be no hub.
@@ -184,11 +166,13 @@ fn every_kept(hub: &mut Hub) {
 }
 
 // A copy of the hub with one word changed.
-fn changed(hub: &Hub, from: u32, r: [u32; 2]) {
-    let at = place(from, r[0]);
+pub fn changed(hub: &Hub, name: &[u8], at: usize, w: u32) {
     let mut copy = *hub;
-    state::put(&mut copy, at, r[1]);
-    word(at, b" = ", r[1]);
+    state::put(&mut copy, at, w);
+    print::text(name);
+    print::text(b" = ");
+    print::word(w as u64);
+    print::text(b"h");
     every_kept(&mut copy);
 }
 
@@ -198,45 +182,4 @@ pub fn cut(hub: &Hub, words: &mut [u32]) {
     named(b"words: ", words.len() as u64);
     every(words);
     print::text(b"\n");
-}
-
-// Tables of cases. Connects: ids. Reads: id, offset, width. Questions: id, offset, length. Words: distance from a place, content.
-pub fn connects(hub: &mut Hub, rows: &[u64]) {
-    let mut k = 0;
-    while k < rows.len() {
-        connect(hub, rows[k]);
-        k += 1;
-    }
-}
-
-pub fn reads(hub: &Hub, space: Space, rows: &[[u64; 3]]) {
-    let mut k = 0;
-    while k < rows.len() {
-        read(hub, space, rows[k]);
-        k += 1;
-    }
-}
-
-pub fn questions(hub: &Hub, rows: &[[u64; 3]]) {
-    let mut k = 0;
-    while k < rows.len() {
-        question(hub, rows[k]);
-        k += 1;
-    }
-}
-
-pub fn makes(hub: &mut Hub, from: u32, rows: &[[u32; 2]]) {
-    let mut k = 0;
-    while k < rows.len() {
-        made(hub, from, rows[k]);
-        k += 1;
-    }
-}
-
-pub fn changes(hub: &Hub, from: u32, rows: &[[u32; 2]]) {
-    let mut k = 0;
-    while k < rows.len() {
-        changed(hub, from, rows[k]);
-        k += 1;
-    }
 }

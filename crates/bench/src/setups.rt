@@ -19,20 +19,6 @@ fn each(hub: &mut Hub, region: &mut Region, rows: &[Numbers]) {
     }
 }
 
-fn odd(words: &mut [u32; 203], region: &mut Region, r: [u64; 8]) {
-    let n = [r[0], r[1], r[2], r[3], r[4], r[5], r[6]];
-    calls::set_up(words, region, n, [0, 0, 0], r[7] as usize);
-}
-
-// The same rows with the number of words that are lent.
-fn each_odd(words: &mut [u32; 203], region: &mut Region, rows: &[[u64; 8]]) {
-    let mut k = 0;
-    while k < rows.len() {
-        odd(words, region, rows[k]);
-        k += 1;
-    }
-}
-
 // Numbers that would be 2 or 1 in 32 bits, and an N of which 4N would be 0 in 64 bits, are no better than 9 and 5.
 fn counts(hub: &mut Hub, region: &mut Region) {
     let rows = [
@@ -102,7 +88,7 @@ fn totals(hub: &mut Hub, region: &mut Region) {
     each(hub, region, &rows);
 }
 
-// The region's last byte at the last address, and one page further; then lengths of what is lent: 2, and 1 before 2.
+// The region's last byte at the last address, and one page further; then lengths of what is lent: 2, 1 before 2, 10 before both.
 fn lengths(hub: &mut Hub, region: &mut Region) {
     let rows = [
         [2, 1, 4096, 0, 0, 0xFFFFFFFFFFFFF000, 4096],
@@ -119,42 +105,39 @@ fn lengths(hub: &mut Hub, region: &mut Region) {
         [9, 1, 4096, 0, 0, 0, 4095],
     ];
     each(hub, region, &rows);
+    calls::set_up(hub, region, [2, 1, 4096, 0, 0, 0, 4096], [0, 0, 0], 0);
+    calls::set_up(hub, region, [2, 1, 4096, 0, 0, 0, 4096], [0, 0, 0], 201);
+    calls::set_up(hub, region, [9, 1, 4096, 0, 0, 0, 4096], [0, 0, 0], 201);
+    calls::set_up(hub, region, [2, 1, 4096, 0, 0, 0, 4095], [0, 0, 0], 201);
+    calls::set_up(hub, region, [9, 1, 4096, 0, 0, 0, 4095], [0, 0, 0], 201);
+    let mut longer = [0u32; 203];
+    calls::set_up(
+        &mut longer,
+        region,
+        [2, 1, 4096, 0, 0, 0, 4096],
+        [0, 0, 0],
+        203,
+    );
 }
 
-// Words of a number that no hub has, lent from an array of 203: 10 before 1 and 2.
-fn odd_lengths(region: &mut Region) {
-    let mut words = [0u32; 203];
-    let rows = [
-        [2, 1, 4096, 0, 0, 0, 4096, 0],
-        [2, 1, 4096, 0, 0, 0, 4096, 201],
-        [9, 1, 4096, 0, 0, 0, 4096, 201],
-        [2, 1, 4096, 0, 0, 0, 4095, 201],
-        [9, 1, 4096, 0, 0, 0, 4095, 201],
-        [2, 1, 4096, 0, 0, 0, 4096, 203],
-    ];
-    each_odd(&mut words, region, &rows);
-}
-
-// The start of every space by one id.
+// Every read by one id.
 fn reads_by(hub: &Hub, id: u64) {
-    calls::reads(hub, Space::Configuration, &[[id, 0, 4]]);
-    calls::reads(hub, Space::Registers, &[[id, 0, 4]]);
-    calls::reads(hub, Space::Msix, &[[id, 0, 4]]);
-    calls::questions(hub, &[[id, 0, 4]]);
+    calls::read(hub, Space::Configuration, id, 0, 4);
+    calls::read(hub, Space::Registers, id, 0, 4);
+    calls::read(hub, Space::Msix, id, 0, 4);
+    calls::question(hub, id, 0, 4);
 }
 
-// All bits of the three numbers that may be anything, seen by a peer.
-fn anything(hub: &mut Hub, region: &mut Region) {
+// All bits of the three numbers that may be anything, seen by a peer. Then: the words that a refused set-up leaves are no hub, and
+// after an accepted one nobody is connected.
+fn afterwards(hub: &mut Hub, region: &mut Region) {
     let ids = [0xFFFF, 0xFFFF, 0xFFFF];
     calls::set_up(hub, region, [2, 1, 4096, 0, 0, 0, 4096], ids, HUB_WORDS);
-    calls::connects(hub, &[0]);
-    calls::reads(hub, Space::Configuration, &[[0, 0x08, 4], [0, 0x2C, 4]]);
-}
-
-// The words that a refused set-up leaves are no hub; after an accepted one nobody is connected.
-fn afterwards(hub: &mut Hub, region: &mut Region) {
+    calls::connect(hub, 0);
+    calls::read(hub, Space::Configuration, 0, 0x08, 4);
+    calls::read(hub, Space::Configuration, 0, 0x2C, 4);
     set_up(hub, region, [9, 1, 4096, 0, 0, 0, 4096]);
-    calls::connects(hub, &[0]);
+    calls::connect(hub, 0);
     reads_by(hub, 0);
     set_up(hub, region, [3, 1, 4096, 0, 0, 0, 4096]);
     reads_by(hub, 0);
@@ -168,7 +151,5 @@ pub fn run(hub: &mut Hub, region: &mut Region) {
     pages(hub, region);
     totals(hub, region);
     lengths(hub, region);
-    odd_lengths(region);
-    anything(hub, region);
     afterwards(hub, region);
 }

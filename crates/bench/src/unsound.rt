@@ -1,117 +1,104 @@
 // Hubs with one word changed: sound ones are answered, all others refused with 10.
 use super::calls;
-use super::calls::changes;
+use super::calls::changed;
 use super::places::*;
 use super::state::Hub;
 use super::state::Region;
 
-// Bits that can be written, and who is connected.
+// Bits that can be written, the free words of peer 0, and its and peer 1's being connected.
 fn sound(hub: &Hub) {
-    changes(hub, SETTINGS, &[[V, 4], [R, 0]]);
-    changes(hub, PEER_1, &[[CONNECTED, 1]]);
-    let rows = [
-        [CONNECTED, 0],
-        [COMMAND, 0x0406],
-        [BAR_0, 0xFFFFF000],
-        [BAR_1, 0xFFFFF000],
-        [PRIVILEGED, 0x01],
-        [MESSAGE, 0xC0],
-        [INTERRUPT, 1],
-        [STATE, 0xFFFFFFFF],
-    ];
-    changes(hub, PEER_0, &rows);
-    let rows = [
-        [LOW, 0xFFFFFFFC],
-        [HIGH, 0xFFFFFFFF],
-        [PAYLOAD, 0xFFFFFFFF],
-        [CONTROL, 0],
-    ];
-    changes(hub, ENTRY_0_0, &rows);
+    changed(hub, b"V", V, 4);
+    changed(hub, b"R", R, 0);
+    changed(hub, b"connected of 0", PEERS, 0);
+    changed(hub, b"connected of 1", PEERS + 8, 1);
+    changed(hub, b"Command of 0", PEERS + COMMAND, 0x0406);
+    changed(hub, b"BAR 0 of 0", PEERS + BAR_0, 0xFFFFF000);
+    changed(hub, b"BAR 1 of 0", PEERS + BAR_1, 0xFFFFF000);
+    changed(hub, b"Privileged Control of 0", PEERS + PRIVILEGED, 0x01);
+    changed(hub, b"Message Control of 0", PEERS + MESSAGE, 0xC0);
+    changed(hub, b"Interrupt Control of 0", PEERS + INTERRUPT, 1);
+    changed(hub, b"State of 0", PEERS + STATE, 0xFFFFFFFF);
+    changed(hub, b"address low of 0, vector 0", LOW, 0xFFFFFFFC);
+    changed(hub, b"address high of 0, vector 0", HIGH, 0xFFFFFFFF);
+    changed(hub, b"data of 0, vector 0", PAYLOAD, 0xFFFFFFFF);
+    changed(hub, b"control of 0, vector 0", CONTROL, 0);
 }
 
 // Numbers that a set-up would refuse. The region ends at the last address, so that no size can grow.
 fn numbers(hub: &Hub) {
-    let rows = [
-        [N, 0],
-        [N, 1],
-        [N, 3],
-        [N, 9],
-        [V, 0],
-        [V, 5],
-        [S, 0],
-        [S, 4100],
-        [S, 8192],
-        [R, 1],
-        [R, 8192],
-        [R, 0x40000000],
-        [O, 1],
-        [O, 8192],
-        [O, 0x80000000],
-        [BASE, 0xFFFFC001],
-        [BASE, 0xFFFFD000],
-        [PROTOCOL, 0x10000],
-        [VENDOR, 0x10000],
-        [SUBSYSTEM, 0x10000],
-    ];
-    changes(hub, SETTINGS, &rows);
+    changed(hub, b"N", N, 0);
+    changed(hub, b"N", N, 1);
+    changed(hub, b"N", N, 3);
+    changed(hub, b"N", N, 9);
+    changed(hub, b"V", V, 0);
+    changed(hub, b"V", V, 5);
+    changed(hub, b"S", S, 0);
+    changed(hub, b"S", S, 4100);
+    changed(hub, b"S", S, 8192);
+    changed(hub, b"R", R, 1);
+    changed(hub, b"R", R, 8192);
+    changed(hub, b"R", R, 0x40000000);
+    changed(hub, b"O", O, 1);
+    changed(hub, b"O", O, 8192);
+    changed(hub, b"O", O, 0x80000000);
+    changed(hub, b"base's low word", BASE_LOW, 0xFFFFC001);
+    changed(hub, b"base's low word", BASE_LOW, 0xFFFFD000);
+    changed(hub, b"protocol type", PROTOCOL, 0x10000);
+    changed(hub, b"subsystem vendor", VENDOR, 0x10000);
+    changed(hub, b"subsystem id", SUBSYSTEM, 0x10000);
 }
 
 // Bits of a connected peer's registers that no write can set.
 fn fixed(hub: &Hub) {
-    let rows = [
-        [CONNECTED, 2],
-        [COMMAND, 0x0001],
-        [COMMAND, 0x0008],
-        [COMMAND, 0x0100],
-        [COMMAND, 0x10000],
-        [BAR_0, 0x00000001],
-        [BAR_0, 0x00000800],
-        [BAR_1, 0x00000100],
-        [PRIVILEGED, 0x02],
-        [PRIVILEGED, 0x100],
-        [MESSAGE, 0x20],
-        [MESSAGE, 0x100],
-        [INTERRUPT, 2],
-    ];
-    changes(hub, PEER_0, &rows);
-    changes(hub, ENTRY_0_0, &[[LOW, 1], [LOW, 2], [CONTROL, 2]]);
+    changed(hub, b"connected of 0", PEERS, 2);
+    changed(hub, b"Command of 0", PEERS + COMMAND, 0x0001);
+    changed(hub, b"Command of 0", PEERS + COMMAND, 0x0008);
+    changed(hub, b"Command of 0", PEERS + COMMAND, 0x0100);
+    changed(hub, b"Command of 0", PEERS + COMMAND, 0x10000);
+    changed(hub, b"BAR 0 of 0", PEERS + BAR_0, 0x00000001);
+    changed(hub, b"BAR 0 of 0", PEERS + BAR_0, 0x00000800);
+    changed(hub, b"BAR 1 of 0", PEERS + BAR_1, 0x00000100);
+    changed(hub, b"Privileged Control of 0", PEERS + PRIVILEGED, 0x02);
+    changed(hub, b"Privileged Control of 0", PEERS + PRIVILEGED, 0x100);
+    changed(hub, b"Message Control of 0", PEERS + MESSAGE, 0x20);
+    changed(hub, b"Message Control of 0", PEERS + MESSAGE, 0x100);
+    changed(hub, b"Interrupt Control of 0", PEERS + INTERRUPT, 2);
+    changed(hub, b"address low of 0, vector 0", LOW, 1);
+    changed(hub, b"address low of 0, vector 0", LOW, 2);
+    changed(hub, b"control of 0, vector 0", CONTROL, 2);
 }
 
-// Not at reset: a vector that the hub does not have, and a peer that is not connected.
+// Not at reset: vectors that the hub does not have, a peer that is not connected, slots of ids that the hub does not have.
 fn unused(hub: &Hub) {
-    changes(
+    changed(hub, b"address low of 0, vector 1", LOW + 1, 4);
+    changed(hub, b"address high of 0, vector 1", HIGH + 1, 1);
+    changed(hub, b"data of 0, vector 1", PAYLOAD + 1, 1);
+    changed(hub, b"control of 0, vector 1", CONTROL + 1, 0);
+    changed(hub, b"control of 0, vector 3", CONTROL + 3, 0);
+    changed(hub, b"Command of 1", PEERS + 8 + COMMAND, 0x0002);
+    changed(hub, b"BAR 0 of 1", PEERS + 8 + BAR_0, 0x1000);
+    changed(hub, b"BAR 1 of 1", PEERS + 8 + BAR_1, 0x1000);
+    changed(
         hub,
-        ENTRY_0_1,
-        &[[LOW, 4], [HIGH, 1], [PAYLOAD, 1], [CONTROL, 0]],
+        b"Privileged Control of 1",
+        PEERS + 8 + PRIVILEGED,
+        0x01,
     );
-    changes(hub, ENTRY_0_3, &[[CONTROL, 0]]);
-    let rows = [
-        [COMMAND, 0x0002],
-        [BAR_0, 0x1000],
-        [BAR_1, 0x1000],
-        [PRIVILEGED, 0x01],
-        [MESSAGE, 0x80],
-        [INTERRUPT, 1],
-        [STATE, 1],
-    ];
-    changes(hub, PEER_1, &rows);
-    changes(
-        hub,
-        ENTRY_1_0,
-        &[[LOW, 4], [HIGH, 1], [PAYLOAD, 1], [CONTROL, 0]],
-    );
-}
-
-// Not at reset: the slot of an id that the hub does not have.
-fn empty(hub: &Hub) {
-    changes(
-        hub,
-        PEER_2,
-        &[[CONNECTED, 1], [COMMAND, 0x0002], [STATE, 1]],
-    );
-    changes(hub, ENTRY_2_0, &[[CONTROL, 0]]);
-    changes(hub, PEER_7, &[[CONNECTED, 1], [STATE, 1]]);
-    changes(hub, ENTRY_7_3, &[[LOW, 4], [CONTROL, 0]]);
+    changed(hub, b"Message Control of 1", PEERS + 8 + MESSAGE, 0x80);
+    changed(hub, b"Interrupt Control of 1", PEERS + 8 + INTERRUPT, 1);
+    changed(hub, b"State of 1", PEERS + 8 + STATE, 1);
+    changed(hub, b"address low of 1, vector 0", LOW + 4, 4);
+    changed(hub, b"address high of 1, vector 0", HIGH + 4, 1);
+    changed(hub, b"data of 1, vector 0", PAYLOAD + 4, 1);
+    changed(hub, b"control of 1, vector 0", CONTROL + 4, 0);
+    changed(hub, b"connected of 2", PEERS + 16, 1);
+    changed(hub, b"Command of 2", PEERS + 16 + COMMAND, 0x0002);
+    changed(hub, b"State of 2", PEERS + 16 + STATE, 1);
+    changed(hub, b"control of 2, vector 0", CONTROL + 8, 0);
+    changed(hub, b"connected of 7", PEERS + 56, 1);
+    changed(hub, b"State of 7", PEERS + 56 + STATE, 1);
+    changed(hub, b"address low of 7, vector 3", LOW + 31, 4);
+    changed(hub, b"control of 7, vector 3", CONTROL + 31, 0);
 }
 
 // Words of another number than a hub has.
@@ -132,11 +119,10 @@ pub fn run(hub: &mut Hub, region: &mut Region) {
         region,
         [2, 1, 4096, 4096, 4096, 0xFFFFFFFFFFFFC000, 16384],
     );
-    calls::connects(hub, &[0]);
+    calls::connect(hub, 0);
     sound(hub);
     numbers(hub);
     fixed(hub);
     unused(hub);
-    empty(hub);
     lengths(hub);
 }
