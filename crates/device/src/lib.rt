@@ -22,8 +22,10 @@ pub fn max_vectors() -> usize
 }
 
 // A peer's id and a vector number: two types, so that one cannot be passed for the other.
+#[repr(C)]
 pub struct PeerId(pub u32);
 
+#[repr(C)]
 pub struct Vector(pub u32);
 
 // The set-up numbers, the same for all peers.
@@ -138,6 +140,7 @@ pub enum Target {
 }
 
 // An interrupt handed to the host.
+#[repr(C)]
 pub struct Delivery {
     pub target: PeerId,
     pub vector: Vector,
@@ -160,6 +163,7 @@ pub struct SectionAnswer {
 }
 
 // A call's answer: 0 or the refusal's number, and the value read.
+#[repr(C)]
 pub struct Reply {
     pub number: u32,
     pub value: u32,

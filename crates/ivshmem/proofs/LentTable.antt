@@ -39,9 +39,9 @@ use Rattle.deliveries.proofs.hand_out.Symbol.{name as #deliveries·hand-out}
 use Rattle.hub.proofs.Served as S
 use Rattle.hub.proofs.Served.Laws as S′
 use Rattle.hub.specs.declared.Served.{Served}
-use Rattle.calls.specs.declared.Counted.{Counted}
-use Rattle.calls.proofs.Counted as R
-use Rattle.calls.proofs.Counted.Laws as R′
+use Rattle.ivshmem.specs.declared.Counted.{Counted}
+use Rattle.ivshmem.proofs.Counted as R
+use Rattle.ivshmem.proofs.Counted.Laws as R′
 
 -- a slice that is lent to be changed
 pub record Lent (T : RattleType) : Type 0 where

@@ -27,7 +27,9 @@ use Rattle.deliveries.specs.Listed.{listed, handedOut}
 use Rattle.hub.specs.declared.Served.{Served}
 use Rattle.hub.specs.Promises.{Serves}
 use Rattle.words.specs.Layout.{hubOf}
-use Rattle.calls.specs.Promises.{Fills, HandsOut}
+use Rattle.ivshmem.specs.declared.Request.{Request}
+use Rattle.ivshmem.specs.declared.Request.the-variants.{RegisterWrite, Reset, Disconnect}
+use Rattle.ivshmem.specs.Promises.{Fills, HandsOut, actOf}
 
 -- at most one ring at each id, in each of the lists of operations that ring
 module _ (who : ℕ) (w : World) (some : 0 < w .hub .settings .peers) where
@@ -75,22 +77,19 @@ module _ (h : Hub) (region : List ℕ) (id : ℕ) (act : Act) (n : ℕ) (lent : 
   room : length (step (world h region) (call id act) .deliveries) ≤ n
   room = room-by (refusal (world h region) (call id act)) refl
 
-module _ (h : Hub) (region : List ℕ) (id n : ℕ) where
-  pub write-room : (offset width value : ℕ) → length (step (world h region) (call id (Act.registerWrite n offset width value)) .deliveries) ≤ n
-  unfolding lentTo effect
-  write-room offset width value = room h region id (Act.registerWrite n offset width value) n refl (λ some. few-written id (world h region) some (memoryOn (slotAt h id .peer)) (slotAt h id) (registerAt offset) value)
+request-room : (h : Hub) (region : List ℕ) (id n : ℕ) (request : Request) → length (step (world h region) (call id (actOf request n)) .deliveries) ≤ n
+unfolding lentTo effect actOf
+request-room h region id n (RegisterWrite s) =
+    room h region id (Act.registerWrite n (s .offset) (s .width) (s .value)) n refl
+    (λ some. few-written id (world h region) some (memoryOn (slotAt h id .peer)) (slotAt h id) (registerAt (s .offset)) (s .value))
+request-room h region id n Reset = room h region id (Act.reset n) n refl (λ some. few-announced id (world h region) some (resetSlot 1))
+request-room h region id n Disconnect = room h region id (Act.disconnect n) n refl (λ some. few-announced id (world h region) some (resetSlot 0))
 
-  pub reset-room : length (step (world h region) (call id (Act.reset n)) .deliveries) ≤ n
-  unfolding lentTo effect
-  reset-room = room h region id (Act.reset n) n refl (λ some. few-announced id (world h region) some (resetSlot 1))
-
-  pub disconnect-room : length (step (world h region) (call id (Act.disconnect n)) .deliveries) ≤ n
-  unfolding lentTo effect
-  disconnect-room = room h region id (Act.disconnect n) n refl (λ some. few-announced id (world h region) some (resetSlot 0))
-
-pub fills : (hub after region regionAfter : List ℕ) (id : ℕ) (act : ℕ → Act) (records : ℕ) (r : Served) → Serves hub after region regionAfter (call id (act records)) r
-    → length (step (world (hubOf hub) region) (call id (act records)) .deliveries) ≤ records → Fills hub after region regionAfter id act records r
-fills hub after region regionAfter id act records r s l = record { served = s; fits = rw (s .count, s .deliveries) l }
+pub fills : (hub after region regionAfter : List ℕ) (id records : ℕ) (request asked : Request) (r : Served) → request ≡ asked
+    → Serves hub after region regionAfter (call id (actOf asked records)) r → Fills hub after region regionAfter id (actOf request) records r
+fills hub after region regionAfter id records request asked r e s =
+    let t : Serves hub after region regionAfter (call id (actOf request records)) r = rw e s in
+    record { served = t; fits = rw (t .count, t .deliveries) (request-room (hubOf hub) region id records request) }
 
 -- a refused step delivers nothing
 refused-nothing : (w : World) (c : Call) → (step w c .number ≡ 0 → ⊥) → step w c .deliveries ≡ []

@@ -1,4 +1,4 @@
--- `calls::register_write` meets its contract: a walk of its MIR, by hand, as that of `Restarting.antt` with three numbers more.
+-- `ivshmem::register_write` meets its contract: a walk of its MIR, by hand, as that of `Restarting.antt` with three numbers more.
 use Prim.Native.Nat.{ℕ, _<_, _^_}
 use mathlib.Core.List.{List, [], _∷_}
 use mathlib.Core.Path.{_≡_, refl, ap}
@@ -49,19 +49,19 @@ use Rattle.deliveries.proofs.hand_out.Symbol.{name as #deliveries·hand-out}
 use Rattle.hub.proofs.Served as S
 use Rattle.hub.proofs.Served.Laws as S′
 use Rattle.hub.specs.declared.Served.{Served}
-use Rattle.calls.specs.Promises.{Fills, HandsOut}
-use Rattle.calls.proofs.TableLaws.{hands-out}
-use Rattle.calls.proofs.LentTable.{Lent, lent, reference, machine, token, owning, counted, is-counted, HandOut, hands, goes-core, Had, ends}
-use Rattle.calls.proofs.Counted as R
-use Rattle.calls.proofs.Counted.Laws as R′
-use Rattle.calls.proofs.written as written
-use Rattle.calls.proofs.written.Symbol as written-def
-use Rattle.calls.proofs.written.Symbol.{name as #calls·written}
-use Rattle.calls.proofs.written.Met as written-thm
-use Rattle.calls.proofs.register_write.Key.{name as #calls·register-write}
-use Rattle.calls.proofs.register_write as register-write
-use Rattle.calls.proofs.register_write.Statement as stated
-use Rattle.calls.proofs.register_write.Code as code
+use Rattle.ivshmem.specs.Promises.{Fills, HandsOut}
+use Rattle.ivshmem.proofs.TableLaws.{hands-out}
+use Rattle.ivshmem.proofs.LentTable.{Lent, lent, reference, machine, token, owning, counted, is-counted, HandOut, hands, goes-core, Had, ends}
+use Rattle.ivshmem.proofs.Counted as R
+use Rattle.ivshmem.proofs.Counted.Laws as R′
+use Rattle.ivshmem.proofs.written as written
+use Rattle.ivshmem.proofs.written.Symbol as written-def
+use Rattle.ivshmem.proofs.written.Symbol.{name as #ivshmem·written}
+use Rattle.ivshmem.proofs.written.Met as written-thm
+use Rattle.ivshmem.proofs.ivshmem_register_write.Key.{name as #ivshmem·ivshmem-register-write}
+use Rattle.ivshmem.proofs.ivshmem_register_write as register-write
+use Rattle.ivshmem.proofs.ivshmem_register_write.Statement as stated
+use Rattle.ivshmem.proofs.ivshmem_register_write.Code as code
 
 abbrev stayed : Stays (register-write.ended .signature .params) (register-write.ended .kept)
 stayed = (
@@ -134,7 +134,7 @@ module _ {M : Type 1} (𝓤 : URA M) (H : Heap 𝓤) (A : Atoms 𝓤) (W : Given
       suffices ! _ (ends-at 𝓤 H A register-write.ended stayed (register-write.clauses 𝓤 H A mem run) W bound (LL.val R.the-type R′.the-laws (counted r n)) (counted r n) (hub′, (region′, (table′, (tt, (tt, (tt, (tt, tt))))))) (e₀, (e₁, (e₂, (tt, (tt, (tt, (tt, tt)))))))) $ says ! promised $
       by ! (ends 𝓤 H A W hub region table hub′ region′ table′ ids made-ids (counted r n) is)
 
-  module _ (C : Calls 𝓤 H) (Λ : Loops 𝓤 H) (fm : FmC 𝓤 H (W .laws) C) (known : Triple 𝓤 (C #calls·written) (Written 𝓤 H A mem run)) (known-hand : Triple 𝓤 (C #deliveries·hand-out) (HandOut 𝓤 H A mem run)) where
+  module _ (C : Calls 𝓤 H) (Λ : Loops 𝓤 H) (fm : FmC 𝓤 H (W .laws) C) (known : Triple 𝓤 (C #ivshmem·written) (Written 𝓤 H A mem run)) (known-hand : Triple 𝓤 (C #deliveries·hand-out) (HandOut 𝓤 H A mem run)) where
     walk : ent 𝓤 (onEntry 𝓤 H A register-write.signature κs qs a vals) (WpFn 𝓤 H C Λ code.function (machine hub ∷ machine region ∷ machine table ∷ vint w64 id ∷ vint w64 offset ∷ vint w64 width ∷ vint w32 value ∷ []) Post)
     walk =
         qed W ((‵ (token hub) ⊛ (‵ (token region) ⊛ (‵ (token table) ⊛ ‵ ftrue))) ∷ ‵ (fsep (owning hub (named 0)) (fsep (owning region (named 1)) (fsep (owning table (named 2)) ids))) ∷ []) ∵
@@ -172,7 +172,7 @@ module _ {M : Type 1} (𝓤 : URA M) (H : Heap 𝓤) (A : Atoms 𝓤) (W : Given
         by ! (exits r n (zs .0) (zs .1 .0) table′ (is-counted r n w is (is′ .1)) (hands-out (hub .now) (zs .0) (region .now) (zs .1 .0) (table .now) table′ id (act offset width value) r n f h) e₀ e₁ e₂))))))))))))))))))))))))))
 
 module _ {M : Type 1} (𝓤 : URA M) (H : Heap 𝓤) (A : Atoms 𝓤) (W : Given 𝓤 H A) (mem : Memory → SProp 𝓤) (run : Routine → Fun 𝓤) (𝓣 : Tables 𝓤 H)
-    (known : Triple 𝓤 (𝓣 .C #calls·written) (Written 𝓤 H A mem run)) (known-hand : Triple 𝓤 (𝓣 .C #deliveries·hand-out) (HandOut 𝓤 H A mem run)) where
+    (known : Triple 𝓤 (𝓣 .C #ivshmem·written) (Written 𝓤 H A mem run)) (known-hand : Triple 𝓤 (𝓣 .C #deliveries·hand-out) (HandOut 𝓤 H A mem run)) where
   walks : Walks 𝓤 H A register-write.ended stayed (WpFn 𝓤 H (𝓣 .C) (𝓣 .Λ) code.function) (register-write.clauses 𝓤 H A mem run)
   walks = walked 𝓤 H A register-write.ended stayed (register-write.clauses 𝓤 H A mem run) (WpFn 𝓤 H (𝓣 .C) (𝓣 .Λ) code.function)
       (λ κs. (slice-vals, (slice-vals, (slice-vals, (uint-vals w64, (uint-vals w64, (uint-vals w64, (uint-vals w32, tt))))))))
@@ -186,11 +186,11 @@ module _ {M : Type 1} (𝓤 : URA M) (H : Heap 𝓤) (A : Atoms 𝓤) (W : Given
       (goes-gave-slice 𝓤 H A W 3 0 tt (plain (λ _. u32)), (goes-gave-slice 𝓤 H A W 3 1 tt (plain (λ _. u8)), (goes-gave-slice 𝓤 H A W 3 2 tt (plain (λ _. D.the-row)), (goes-none 𝓤 H A W 3 (λ _. u64) yes (λ κs x f. refl), (goes-none 𝓤 H A W 3 (λ _. u64) yes (λ κs x f. refl), (goes-none 𝓤 H A W 3 (λ _. u64) yes (λ κs x f. refl), (goes-none 𝓤 H A W 3 (λ _. u32) yes (λ κs x f. refl), tt)))))))
       (register-write.clauses 𝓤 H A mem run) (WpFn 𝓤 H (𝓣 .C) (𝓣 .Λ) code.function) (WpFn-mono 𝓤 H (W .laws) 𝓣 code.function) walks
 
-pub register-write-spec : {M : Type 1} → stated.statement M
+pub ivshmem-register-write-spec : {M : Type 1} → stated.statement M
 unfolding code.routine tablesOf
-register-write-spec 𝓤 H 𝓜 𝓖 𝓡 =
+ivshmem-register-write-spec 𝓤 H 𝓜 𝓖 𝓡 =
     entered 𝓤 H (tripleOf 𝓤 H (𝓖 .A) register-write.signature (register-write.spec 𝓤 H (𝓖 .A) (𝓜 .mem) (𝓡 .run)))
-    (tables 𝓤 H 𝓜 𝓡 code.env .C) (tables 𝓤 H 𝓜 𝓡 code.env .Λ) #calls·register-write code.function (code.unfolded 𝓤 H 𝓜 𝓡)
+    (tables 𝓤 H 𝓜 𝓡 code.env .C) (tables 𝓤 H 𝓜 𝓡 code.env .Λ) #ivshmem·ivshmem-register-write code.function (code.unfolded 𝓤 H 𝓜 𝓡)
     (meets 𝓤 H (𝓖 .A) (givenOf 𝓤 H 𝓜 𝓖) (𝓜 .mem) (𝓡 .run) (tablesOf 𝓤 H 𝓜 (tables 𝓤 H 𝓜 𝓡 code.env))
-    (cited 𝓤 H (Written 𝓤 H (𝓖 .A) (𝓜 .mem) (𝓡 .run)) 𝓜 𝓡 code.env #calls·written written-def.routine code.calls-calls·written (written-thm.met 𝓤 H 𝓜 𝓖 𝓡))
+    (cited 𝓤 H (Written 𝓤 H (𝓖 .A) (𝓜 .mem) (𝓡 .run)) 𝓜 𝓡 code.env #ivshmem·written written-def.routine code.calls-ivshmem·written (written-thm.met 𝓤 H 𝓜 𝓖 𝓡))
     (cited 𝓤 H (HandOut 𝓤 H (𝓖 .A) (𝓜 .mem) (𝓡 .run)) 𝓜 𝓡 code.env #deliveries·hand-out hand-out-def.routine code.calls-deliveries·hand-out (hand-out-thm.met 𝓤 H 𝓜 𝓖 𝓡)))

@@ -47,13 +47,13 @@ use Rattle.deliveries.proofs.hand_out.Symbol.{name as #deliveries·hand-out}
 use Rattle.hub.proofs.Served as S
 use Rattle.hub.proofs.Served.Laws as S′
 use Rattle.hub.specs.declared.Served.{Served}
-use Rattle.calls.specs.Promises.{Fills, HandsOut}
-use Rattle.calls.proofs.TableLaws.{hands-out}
-use Rattle.calls.proofs.LentTable.{Lent, lent, reference, machine, token, owning, counted, is-counted, HandOut, hands, goes-core, Had, ends}
-use Rattle.calls.proofs.Counted as R
-use Rattle.calls.proofs.Counted.Laws as R′
-use Rattle.calls.proofs.restarted as restarted
-use Rattle.calls.proofs.reset as reset
+use Rattle.ivshmem.specs.Promises.{Fills, HandsOut}
+use Rattle.ivshmem.proofs.TableLaws.{hands-out}
+use Rattle.ivshmem.proofs.LentTable.{Lent, lent, reference, machine, token, owning, counted, is-counted, HandOut, hands, goes-core, Had, ends}
+use Rattle.ivshmem.proofs.Counted as R
+use Rattle.ivshmem.proofs.Counted.Laws as R′
+use Rattle.ivshmem.proofs.restarted as restarted
+use Rattle.ivshmem.proofs.ivshmem_reset as reset
 
 -- the MIR of both, at the function called
 abbrev word : Ty

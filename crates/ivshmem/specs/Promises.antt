@@ -1,17 +1,29 @@
--- What the calls with a lent delivery table promise.
+-- What the exported calls promise, where it is not the promise of the call that they pass on.
 use Prim.Native.Nat.{ℕ, _≤_}
+use mathlib.Core.Bool.{cond}
 use mathlib.Core.List.{List}
 use mathlib.Core.Path.{_≡_}
 use lib.ListN.{length}
 use Rattle.device.specs.declared.Delivery.{Delivery}
-use Rattle.device.specs.Call.{Act, call}
-use Rattle.device.specs.Step.{step, replyOf}
+use Rattle.device.specs.declared.SectionReply.{SectionReply}
+use Rattle.device.specs.Call.{Act, Call, call}
+use Rattle.device.specs.Sections.{kindNumber, ownerNumber}
+use Rattle.device.specs.Step.{step, replyOf, sectionReplyOf}
 use Rattle.device.specs.World.{world}
 use Rattle.deliveries.specs.Listed.{handedOut}
 use Rattle.hub.specs.declared.Served.{Served}
 use Rattle.hub.specs.Promises.{Serves}
-use Rattle.calls.specs.declared.Counted.{Counted}
+use Rattle.ivshmem.specs.declared.Counted.{Counted}
+use Rattle.ivshmem.specs.declared.Request.{Request}
+use Rattle.ivshmem.specs.declared.Request.the-variants.{RegisterWrite, Reset, Disconnect}
+use Rattle.ivshmem.specs.declared.SectionNumbers.{SectionNumbers}
 use Rattle.words.specs.Layout.{hubOf}
+
+-- the call that a request is, for a table of so many records
+unfoldable pub actOf : Request → ℕ → Act
+actOf (RegisterWrite store) records = Act.registerWrite records (store .offset) (store .width) (store .value)
+actOf Reset records = Act.reset records
+actOf Disconnect records = Act.disconnect records
 
 -- A call by value, for a table of so many records: its deliveries have room there.
 pub record Fills (hub after region regionAfter : List ℕ) (id : ℕ) (act : ℕ → Act) (records : ℕ) (r : Served) : Type 0 where
@@ -27,3 +39,16 @@ pub record HandsOut (hub after region regionAfter : List ℕ) (records recordsAf
   pub table : recordsAfter ≡ handedOut (step (world (hubOf hub) region) (call id (act (length records))) .deliveries) records
   pub count : r .count ≡ length (step (world (hubOf hub) region) (call id (act (length records))) .deliveries)
   pub kept : (r .reply .number ≡ 0 → ⊥) → (after ≡ hub) × (recordsAfter ≡ records)
+
+-- the section question's answer in numbers
+abbrev pub inNumbers : SectionReply → SectionNumbers
+inNumbers r =
+    record {
+      reply = r .reply;
+      kind = kindNumber (r .section .kind);
+      owner = ownerNumber (r .section .kind);
+      store = cond (r .section .store) 1 0;
+    }
+
+abbrev pub AnswersInNumbers : List ℕ → Call → SectionNumbers → Type 0
+AnswersInNumbers hub c r = (region : List ℕ) → r ≡ inNumbers (sectionReplyOf (step (world (hubOf hub) region) c))

@@ -1,16 +1,62 @@
-// The calls that may ring other peers, with the delivery table that the host lends: the records are written from the front.
+// The library that a host links: one exported function for each call, over plain numbers and lent memory. The calls that may
+// ring other peers are here; host.rt and guest.rt have the others.
 use device::Delivery;
 use device::Reply;
 use hub::Served;
 ghost use Prim.Native.Nat.{ℕ};
 ghost use lib.ListN.{length};
 ghost use Rattle.device.specs.Call.{Act, call};
-ghost use Rattle.calls.specs.Promises.{Fills, HandsOut};
+ghost use Rattle.ivshmem.specs.Promises.{Fills, HandsOut, actOf};
+
+pub mod guest;
+pub mod host;
 
 // An answer, and the number of records written, which is for the host alone.
+#[repr(C)]
 pub struct Counted {
     pub reply: Reply,
     pub count: usize,
+}
+
+// The answer to the section question, in numbers: the kind, the owner's id where there is one, and 1 where the peer may store.
+#[repr(C)]
+pub struct SectionNumbers {
+    pub reply: Reply,
+    pub kind: u32,
+    pub owner: u32,
+    pub store: u32,
+}
+
+pub struct RegisterStore {
+    pub offset: u64,
+    pub width: u64,
+    pub value: u32,
+}
+
+// What is asked of a peer's device by a call that may ring other peers.
+pub enum Request {
+    RegisterWrite(RegisterStore),
+    Reset,
+    Disconnect,
+}
+
+// The core of the three calls: all take the table's length as a number, and give their deliveries by value.
+fn perform(hub: &mut [u32], region: &mut [u8], records: usize, id: u64, request: Request) -> Served
+    ensures { λ r. ⌜ Fills (now (hub .entry)) (now (hub .exit)) (now (region .entry)) (now (region .exit)) id (actOf request) records r ⌝ }
+{
+    match request {
+        Request::RegisterWrite(store) => hub::register_write(
+            hub,
+            region,
+            records as u64,
+            id,
+            store.offset,
+            store.width,
+            store.value,
+        ),
+        Request::Reset => hub::reset(hub, region, records as u64, id),
+        Request::Disconnect => hub::disconnect(hub, region, records as u64, id),
+    }
 }
 
 fn written(
@@ -24,22 +70,28 @@ fn written(
 ) -> Served
     ensures { λ r. ⌜ Fills (now (hub .entry)) (now (hub .exit)) (now (region .entry)) (now (region .exit)) id (λ (n : ℕ). Act.registerWrite n offset width value) records r ⌝ }
 {
-    hub::register_write(hub, region, records as u64, id, offset, width, value)
+    let store = RegisterStore {
+        offset,
+        width,
+        value,
+    };
+    perform(hub, region, records, id, Request::RegisterWrite(store))
 }
 
 fn restarted(hub: &mut [u32], region: &mut [u8], records: usize, id: u64) -> Served
     ensures { λ r. ⌜ Fills (now (hub .entry)) (now (hub .exit)) (now (region .entry)) (now (region .exit)) id Act.reset records r ⌝ }
 {
-    hub::reset(hub, region, records as u64, id)
+    perform(hub, region, records, id, Request::Reset)
 }
 
 fn departed(hub: &mut [u32], region: &mut [u8], records: usize, id: u64) -> Served
     ensures { λ r. ⌜ Fills (now (hub .entry)) (now (hub .exit)) (now (region .entry)) (now (region .exit)) id Act.disconnect records r ⌝ }
 {
-    hub::disconnect(hub, region, records as u64, id)
+    perform(hub, region, records, id, Request::Disconnect)
 }
 
-pub fn register_write(
+#[no_mangle]
+pub extern "C" fn ivshmem_register_write(
     hub: &mut [u32],
     region: &mut [u8],
     table: &mut [Delivery],
@@ -58,7 +110,13 @@ pub fn register_write(
     }
 }
 
-pub fn reset(hub: &mut [u32], region: &mut [u8], table: &mut [Delivery], id: u64) -> Counted
+#[no_mangle]
+pub extern "C" fn ivshmem_reset(
+    hub: &mut [u32],
+    region: &mut [u8],
+    table: &mut [Delivery],
+    id: u64,
+) -> Counted
     ensures { λ r. ⌜ HandsOut (now (hub .entry)) (now (hub .exit)) (now (region .entry)) (now (region .exit)) (now (table .entry)) (now (table .exit)) id Act.reset r ⌝ }
 {
     let out = restarted(hub, region, table.len(), id);
@@ -69,7 +127,13 @@ pub fn reset(hub: &mut [u32], region: &mut [u8], table: &mut [Delivery], id: u64
     }
 }
 
-pub fn disconnect(hub: &mut [u32], region: &mut [u8], table: &mut [Delivery], id: u64) -> Counted
+#[no_mangle]
+pub extern "C" fn ivshmem_disconnect(
+    hub: &mut [u32],
+    region: &mut [u8],
+    table: &mut [Delivery],
+    id: u64,
+) -> Counted
     ensures { λ r. ⌜ HandsOut (now (hub .entry)) (now (hub .exit)) (now (region .entry)) (now (region .exit)) (now (table .entry)) (now (table .exit)) id Act.disconnect r ⌝ }
 {
     let out = departed(hub, region, table.len(), id);

@@ -1,0 +1,21 @@
+-- `ivshmem::restarted` meets its contract: that of its request.
+use borrow.Author.Needs.{needs}
+use Rattle.ivshmem.specs.Promises.{actOf}
+use Rattle.ivshmem.proofs.restarted.Tie as tie
+use Rattle.ivshmem.proofs.restarted.Statement.{statement}
+
+perform-requires : tie.Need-perform-requires
+perform-requires c κs = search needs
+
+same-length : tie.Need-same-length
+same-length c = search needs
+
+same-length-2 : tie.Need-same-length-2
+same-length-2 c = search needs
+
+returns : tie.Need-returns
+unfolding actOf
+returns c = c .before .before .before .before .perform .ensures
+
+pub restarted-spec : {M : Type 1} → statement M
+restarted-spec = tie.close (tie.spec perform-requires same-length same-length-2 returns)
