@@ -144,6 +144,24 @@ ivshmem_reply ivshmem_load(const uint32_t *hub, size_t hub_words, const uint8_t 
 ivshmem_reply ivshmem_store(const uint32_t *hub, size_t hub_words, uint8_t *region, size_t region_bytes, uint64_t id,
                             uint64_t offset, const uint8_t *bytes, size_t length);
 
+/* The layout that the library was built with. */
+#if defined(__STDC_VERSION__) && __STDC_VERSION__ >= 201112L
+_Static_assert(sizeof(size_t) == 8, "the library is built for 64-bit hosts");
+_Static_assert(IVSHMEM_HUB_WORDS == 202, "words of a hub");
+_Static_assert(sizeof(ivshmem_reply) == 8, "ivshmem_reply");
+_Static_assert(offsetof(ivshmem_reply, value) == 4, "ivshmem_reply.value");
+_Static_assert(sizeof(ivshmem_delivery) == 24, "ivshmem_delivery");
+_Static_assert(offsetof(ivshmem_delivery, vector) == 4, "ivshmem_delivery.vector");
+_Static_assert(offsetof(ivshmem_delivery, address) == 8, "ivshmem_delivery.address");
+_Static_assert(offsetof(ivshmem_delivery, payload) == 16, "ivshmem_delivery.payload");
+_Static_assert(sizeof(ivshmem_counted) == 16, "ivshmem_counted");
+_Static_assert(offsetof(ivshmem_counted, count) == 8, "ivshmem_counted.count");
+_Static_assert(sizeof(ivshmem_section) == 20, "ivshmem_section");
+_Static_assert(offsetof(ivshmem_section, kind) == 8, "ivshmem_section.kind");
+_Static_assert(offsetof(ivshmem_section, owner) == 12, "ivshmem_section.owner");
+_Static_assert(offsetof(ivshmem_section, store) == 16, "ivshmem_section.store");
+#endif
+
 #ifdef __cplusplus
 }
 #endif
