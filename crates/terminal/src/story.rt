@@ -1,0 +1,90 @@
+// The two runs: a double tap without one-shot mode, then with it.
+use super::acts;
+use super::acts::CARD;
+use super::acts::Hub;
+use super::acts::ORDERS;
+use super::acts::PLANNER;
+use super::acts::Region;
+use super::acts::TOUCH;
+use super::log;
+use super::log::Log;
+
+fn opening(hub: &mut Hub, region: &mut Region, one_shot: u32) -> Log {
+    let mut log = acts::set_up(hub, region, Log::new());
+    log = acts::join(hub, region, log, TOUCH);
+    log = acts::join(hub, region, log, PLANNER);
+    log = acts::join(hub, region, log, ORDERS);
+    log = acts::join(hub, region, log, CARD);
+    acts::one_shot(hub, log, ORDERS, one_shot)
+}
+
+// The basket holds the lengths of two pieces; one slab is to have both.
+fn basket(hub: &Hub, region: &mut Region, log: Log) -> Log {
+    acts::store(hub, region, log, TOUCH, TOUCH, &[12, 6])
+}
+
+fn length(a: u8, b: u8) -> u8 {
+    ((a as u64 + b as u64) % 256) as u8
+}
+
+fn plan(hub: &Hub, region: &mut Region, log: Log) -> Log {
+    let mut pieces = [0u8; 2];
+    let next = acts::load(hub, region, log, PLANNER, TOUCH, &mut pieces);
+    let whole = length(pieces[0], pieces[1]);
+    acts::store(hub, region, next, PLANNER, PLANNER, &[whole])
+}
+
+fn order(hub: &mut Hub, region: &mut Region, log: Log) -> Log {
+    let mut whole = [0u8; 1];
+    let next = acts::load(hub, region, log, ORDERS, PLANNER, &mut whole);
+    acts::cut(hub, region, next)
+}
+
+fn pay(hub: &Hub, region: &mut Region, log: Log) -> Log {
+    let mut state = [0u8; 4];
+    let next = acts::look(hub, region, log, &mut state);
+    acts::charge(hub, region, next, state[0])
+}
+
+fn double_tap(hub: &mut Hub, region: &mut Region, log: Log) -> Log {
+    let mut next = acts::press(hub, region, log);
+    next = acts::press(hub, region, next);
+    acts::interrupt_control(hub, next, ORDERS)
+}
+
+fn closing(log: Log) {
+    log::summary(log, TOUCH);
+    log::summary(log, PLANNER);
+    log::summary(log, ORDERS);
+    log::summary(log, CARD);
+}
+
+// Both taps are delivered: two slabs for one order.
+pub fn first(hub: &mut Hub, region: &mut Region) {
+    let mut log = opening(hub, region, 0);
+    log = basket(hub, region, log);
+    log = acts::ask(hub, log, TOUCH, PLANNER);
+    log = acts::store(hub, region, log, TOUCH, PLANNER, &[12, 6]);
+    log = plan(hub, region, log);
+    log = double_tap(hub, region, log);
+    log = order(hub, region, log);
+    log = pay(hub, region, log);
+    log = acts::reset(hub, region, log, PLANNER);
+    closing(log);
+}
+
+// The second tap is lost; a press after the guest has handled the order and re-armed is delivered.
+pub fn second(hub: &mut Hub, region: &mut Region) {
+    let mut log = opening(hub, region, 1);
+    log = basket(hub, region, log);
+    log = plan(hub, region, log);
+    log = double_tap(hub, region, log);
+    log = order(hub, region, log);
+    log = pay(hub, region, log);
+    log = acts::rearm(hub, region, log);
+    log = acts::press(hub, region, log);
+    log = acts::cut(hub, region, log);
+    log = acts::rearm(hub, region, log);
+    log = acts::disconnect(hub, region, log, TOUCH);
+    closing(log);
+}
