@@ -3,7 +3,6 @@
 use super::log;
 use super::log::Log;
 use super::print;
-use device::Reply;
 use hub::Served;
 
 // Arrays, since their lengths need no proof when they are lent.
@@ -29,19 +28,10 @@ const HOST: u64 = 4;
 // The records of the delivery table that would be lent.
 const RECORDS: u64 = 4;
 
-// State Table, R/W and each output section have 4096 bytes.
-const COMMON: u64 = 4096;
-
-fn output_of(owner: u64) -> u64 {
-    8192 + 4096 * (owner % 4)
-}
-
 pub fn set_up(hub: &mut Hub, region: &mut Region, log: Log) -> Log {
-    let next = log.begin(HOST);
-    print::text(b"set up 4 peers with 2 vectors");
+    let next = log.begin(HOST, b"set up 4 peers with 2 vectors");
     let r = hub::set_up(hub, region, 4, 2, 4096, 4096, 4096, 0, 1, 0, 0);
-    print::answer(r.number);
-    print::text(b"\n");
+    print::answered(r.number);
     next
 }
 
@@ -75,79 +65,70 @@ fn switch_on(hub: &mut Hub, region: &mut Region, id: u64) -> u32 {
 }
 
 pub fn join(hub: &mut Hub, region: &mut Region, log: Log, id: u64) -> Log {
-    let next = log.begin(id);
-    print::text(b"connect, switch on, read ID");
+    let next = log.begin(id, b"connect, switch on, read ID");
     let connected = hub::connect(hub, id);
     let switched = switch_on(hub, region, id);
     let r = hub::register_read(hub, id, 0x00, 4);
-    let number = larger(larger(connected.number, switched), r.number);
-    print::read(Reply {
-        number,
-        value: r.value,
-    });
-    print::text(b"\n");
+    print::value(
+        larger(connected.number, larger(switched, r.number)),
+        r.value,
+    );
     next
 }
 
 // Bit 0 of Privileged Control is one-shot mode.
-pub fn one_shot(hub: &mut Hub, log: Log, id: u64, on: u32) -> Log {
-    let next = log.begin(id);
-    print::text(b"write ");
-    print::decimal(on as u64);
-    print::text(b" to Privileged Control, read it");
-    let w = hub::configuration_write(hub, id, 0x43, 1, on);
-    let r = hub::configuration_read(hub, id, 0x43, 1);
-    let number = larger(w.number, r.number);
-    print::read(Reply {
-        number,
-        value: r.value,
-    });
-    print::text(b"\n");
+pub fn one_shot(hub: &mut Hub, log: Log, on: u32) -> Log {
+    let next = log.begin(ORDERS, b"write Privileged Control, read it");
+    let w = hub::configuration_write(hub, ORDERS, 0x43, 1, on);
+    let r = hub::configuration_read(hub, ORDERS, 0x43, 1);
+    print::value(larger(w.number, r.number), r.value);
     next
 }
 
-fn in_output(owner: u64) {
-    print::text(b" the output section of ");
-    print::name(owner);
+pub fn interrupt_control(hub: &Hub, log: Log) -> Log {
+    let next = log.begin(ORDERS, b"read Interrupt Control");
+    let r = hub::register_read(hub, ORDERS, 0x08, 4);
+    print::value(r.number, r.value);
+    next
 }
 
-pub fn store(hub: &Hub, region: &mut Region, log: Log, id: u64, owner: u64, bytes: &[u8]) -> Log {
-    let next = log.begin(id);
-    print::text(b"store");
+pub fn store(
+    hub: &Hub,
+    region: &mut Region,
+    log: Log,
+    id: u64,
+    what: &[u8],
+    offset: u64,
+    bytes: &[u8],
+) -> Log {
+    let next = log.begin(id, what);
     print::bytes(bytes);
-    print::text(b" in");
-    in_output(owner);
-    let r = hub::store(hub, region, id, output_of(owner), bytes);
-    print::answer(r.number);
-    print::text(b"\n");
+    let r = hub::store(hub, region, id, offset, bytes);
+    print::answered(r.number);
     next
 }
 
-pub fn load(hub: &Hub, region: &Region, log: Log, id: u64, owner: u64, buffer: &mut [u8]) -> Log {
-    let next = log.begin(id);
-    print::text(b"load from");
-    in_output(owner);
-    let r = hub::load(hub, region, id, output_of(owner), buffer);
-    print::answer(r.number);
-    print::text(b", bytes");
-    print::bytes(buffer);
-    print::text(b"\n");
+pub fn load(
+    hub: &Hub,
+    region: &Region,
+    log: Log,
+    id: u64,
+    what: &[u8],
+    offset: u64,
+    buffer: &mut [u8],
+) -> Log {
+    let next = log.begin(id, what);
+    let r = hub::load(hub, region, id, offset, buffer);
+    print::loaded(r.number, buffer);
     next
 }
 
-pub fn ask(hub: &Hub, log: Log, id: u64, owner: u64) -> Log {
-    let next = log.begin(id);
-    print::text(b"ask about");
-    in_output(owner);
-    let r = hub::section_question(hub, id, output_of(owner), 4096);
+pub fn ask(hub: &Hub, log: Log, id: u64, what: &[u8], offset: u64) -> Log {
+    let next = log.begin(id, what);
+    let r = hub::section_question(hub, id, offset, 4096);
     let reply = r.reply;
     let section = r.section;
-    print::answer(reply.number);
-    if section.store {
-        print::text(b", store yes\n");
-    } else {
-        print::text(b", store no\n");
-    }
+    print::asked(reply.number, section.store);
     next
 }
 
@@ -155,9 +136,7 @@ pub fn ask(hub: &Hub, log: Log, id: u64, owner: u64) -> Log {
 fn served(log: Log, s: Served) -> Log {
     let reply = s.reply;
     let list = s.list;
-    print::answer(reply.number);
-    print::delivered(list);
-    print::text(b"\n");
+    print::served(reply.number, list);
     log::with_all(log, list)
 }
 
@@ -168,75 +147,32 @@ fn write(hub: &mut Hub, region: &mut Region, log: Log, id: u64, offset: u64, val
 
 // The customer presses 'order'.
 pub fn press(hub: &mut Hub, region: &mut Region, log: Log) -> Log {
-    let next = log.begin(TOUCH);
-    print::text(b"press, ring orders with vector 1");
+    let next = log.begin(TOUCH, b"press, ring orders with vector 1");
     write(hub, region, next, TOUCH, 0x0C, 0x00020001)
 }
 
 // A slab is cut for each order that was delivered, and their number announced.
 pub fn cut(hub: &mut Hub, region: &mut Region, log: Log) -> Log {
-    let next = log.begin(ORDERS);
-    let slabs = (log::got(next, ORDERS, 1) % 256) as u32;
-    print::text(b"slabs cut ");
+    let next = log.begin(ORDERS, b"cut slabs, store State ");
+    let slabs = log::got(next, ORDERS, 1) % 256;
     print::decimal(slabs as u64);
-    print::text(b", store State ");
-    print::decimal(slabs as u64);
-    write(hub, region, next, ORDERS, 0x10, slabs)
+    write(hub, region, next, ORDERS, 0x10, slabs as u32)
 }
 
-// One-shot mode: interrupts on again.
+// After a delivery in one-shot mode: interrupts on again.
 pub fn rearm(hub: &mut Hub, region: &mut Region, log: Log) -> Log {
-    let next = log.begin(ORDERS);
-    print::text(b"write 1 to Interrupt Control");
+    let next = log.begin(ORDERS, b"write 1 to Interrupt Control");
     write(hub, region, next, ORDERS, 0x08, 1)
 }
 
-pub fn interrupt_control(hub: &Hub, log: Log, id: u64) -> Log {
-    let next = log.begin(id);
-    print::text(b"read Interrupt Control");
-    let r = hub::register_read(hub, id, 0x08, 4);
-    print::read(r);
-    print::text(b"\n");
-    next
-}
-
-// The card terminal reads how many slabs were cut in the State Table.
-pub fn look(hub: &Hub, region: &Region, log: Log, buffer: &mut [u8]) -> Log {
-    let next = log.begin(CARD);
-    print::text(b"load the State of orders");
-    let r = hub::load(hub, region, CARD, 8, buffer);
-    print::answer(r.number);
-    print::text(b", bytes");
-    print::bytes(buffer);
-    print::text(b"\n");
-    next
-}
-
-pub fn charge(hub: &Hub, region: &mut Region, log: Log, slabs: u8) -> Log {
-    let next = log.begin(CARD);
-    print::text(b"slabs charged ");
-    print::decimal(slabs as u64);
-    print::text(b", store");
-    print::bytes(&[slabs]);
-    print::text(b" in the R/W section");
-    let r = hub::store(hub, region, CARD, COMMON, &[slabs]);
-    print::answer(r.number);
-    print::text(b"\n");
-    next
-}
-
 pub fn reset(hub: &mut Hub, region: &mut Region, log: Log, id: u64) -> Log {
-    let next = log.begin(HOST);
-    print::text(b"reset ");
+    let next = log.begin(HOST, b"reset ");
     print::name(id);
-    let s = hub::reset(hub, region, RECORDS, id);
-    served(next, s)
+    served(next, hub::reset(hub, region, RECORDS, id))
 }
 
 pub fn disconnect(hub: &mut Hub, region: &mut Region, log: Log, id: u64) -> Log {
-    let next = log.begin(HOST);
-    print::text(b"disconnect ");
+    let next = log.begin(HOST, b"disconnect ");
     print::name(id);
-    let s = hub::disconnect(hub, region, RECORDS, id);
-    served(next, s)
+    served(next, hub::disconnect(hub, region, RECORDS, id))
 }

@@ -32,13 +32,10 @@ impl Log {
         }
     }
 
-    // The next step: its number and who acts. The number has three digits at most.
-    pub fn begin(self, who: u64) -> Self {
+    // The next step's line: its number, who acts, and what is done. The number has three digits at most.
+    pub fn begin(self, who: u64, what: &[u8]) -> Self {
         let step = self.steps % 999 + 1;
-        print::decimal(step);
-        print::text(b" ");
-        print::name(who);
-        print::text(b": ");
+        print::start(step, who, what);
         let mut next = self;
         next.steps = step;
         next

@@ -1,7 +1,6 @@
 // The parts of a line.
 use deliveries::Deliveries;
 use device::Delivery;
-use device::Reply;
 use libc::STDOUT_FILENO;
 
 pub fn text(s: &[u8]) {
@@ -21,6 +20,15 @@ pub fn name(id: u64) {
         3 => text(b"card"),
         _ => text(b"host"),
     }
+}
+
+// The start of a line.
+pub fn start(step: u64, who: u64, what: &[u8]) {
+    decimal(step);
+    text(b" ");
+    name(who);
+    text(b": ");
+    text(what);
 }
 
 fn digit(n: u64) -> u8 {
@@ -56,16 +64,37 @@ pub fn message(d: Delivery) {
     text(b"h)");
 }
 
-pub fn answer(number: u32) {
+fn answer(number: u32) {
     text(b": answer ");
     decimal(number as u64);
 }
 
-// The answer to a read.
-pub fn read(r: Reply) {
-    answer(r.number);
+// The end of a line: an answer alone, with the value of a read, the right to store, or the bytes of a load.
+pub fn answered(number: u32) {
+    answer(number);
+    text(b"\n");
+}
+
+pub fn value(number: u32, read: u32) {
+    answer(number);
     text(b", value ");
-    decimal(r.value as u64);
+    decimal(read as u64);
+    text(b"\n");
+}
+
+pub fn asked(number: u32, store: bool) {
+    answer(number);
+    if store {
+        text(b", may store\n");
+    } else {
+        text(b", may not store\n");
+    }
+}
+
+pub fn loaded(number: u32, buffer: &[u8]) {
+    answer(number);
+    bytes(buffer);
+    text(b"\n");
 }
 
 fn delivery(d: Delivery) {
@@ -77,10 +106,9 @@ fn delivery(d: Delivery) {
 }
 
 // The deliveries of a call, in ring order.
-pub fn delivered(list: Deliveries) {
+fn delivered(list: Deliveries) {
     let count = list.count;
     let records = list.records;
-    text(b", delivered: ");
     if count == 0 {
         text(b"nothing");
     }
@@ -94,8 +122,16 @@ pub fn delivered(list: Deliveries) {
     }
 }
 
+// The end of a line of a call that may ring.
+pub fn served(number: u32, list: Deliveries) {
+    answer(number);
+    text(b", delivered: ");
+    delivered(list);
+    text(b"\n");
+}
+
 // Between the items of a list.
-pub fn comma(k: usize) {
+fn comma(k: usize) {
     if k > 0 {
         text(b", ");
     }
@@ -106,6 +142,7 @@ fn wide(b: u8) -> u64 {
 }
 
 pub fn bytes(b: &[u8]) {
+    text(b", bytes");
     let mut k = 0;
     while k < b.len() {
         text(b" ");

@@ -9,18 +9,35 @@ use super::acts::TOUCH;
 use super::log;
 use super::log::Log;
 
+// Offsets in the shared region.
+const ORDERS_STATE: u64 = 8;
+
+const COMMON: u64 = 4096;
+
+const TOUCH_OUTPUT: u64 = 8192;
+
+const PLANNER_OUTPUT: u64 = 12288;
+
 fn opening(hub: &mut Hub, region: &mut Region, one_shot: u32) -> Log {
     let mut log = acts::set_up(hub, region, Log::new());
     log = acts::join(hub, region, log, TOUCH);
     log = acts::join(hub, region, log, PLANNER);
     log = acts::join(hub, region, log, ORDERS);
     log = acts::join(hub, region, log, CARD);
-    acts::one_shot(hub, log, ORDERS, one_shot)
+    acts::one_shot(hub, log, one_shot)
 }
 
 // The basket holds the lengths of two pieces; one slab is to have both.
 fn basket(hub: &Hub, region: &mut Region, log: Log) -> Log {
-    acts::store(hub, region, log, TOUCH, TOUCH, &[12, 6])
+    acts::store(
+        hub,
+        region,
+        log,
+        TOUCH,
+        b"store basket in its output section",
+        TOUCH_OUTPUT,
+        &[12, 6],
+    )
 }
 
 fn length(a: u8, b: u8) -> u8 {
@@ -29,27 +46,86 @@ fn length(a: u8, b: u8) -> u8 {
 
 fn plan(hub: &Hub, region: &mut Region, log: Log) -> Log {
     let mut pieces = [0u8; 2];
-    let next = acts::load(hub, region, log, PLANNER, TOUCH, &mut pieces);
-    let whole = length(pieces[0], pieces[1]);
-    acts::store(hub, region, next, PLANNER, PLANNER, &[whole])
+    let next = acts::load(
+        hub,
+        region,
+        log,
+        PLANNER,
+        b"load basket",
+        TOUCH_OUTPUT,
+        &mut pieces,
+    );
+    acts::store(
+        hub,
+        region,
+        next,
+        PLANNER,
+        b"store length in its output section",
+        PLANNER_OUTPUT,
+        &[length(pieces[0], pieces[1])],
+    )
 }
 
 fn order(hub: &mut Hub, region: &mut Region, log: Log) -> Log {
     let mut whole = [0u8; 1];
-    let next = acts::load(hub, region, log, ORDERS, PLANNER, &mut whole);
+    let next = acts::load(
+        hub,
+        region,
+        log,
+        ORDERS,
+        b"load length",
+        PLANNER_OUTPUT,
+        &mut whole,
+    );
     acts::cut(hub, region, next)
 }
 
 fn pay(hub: &Hub, region: &mut Region, log: Log) -> Log {
     let mut state = [0u8; 4];
-    let next = acts::look(hub, region, log, &mut state);
-    acts::charge(hub, region, next, state[0])
+    let next = acts::load(
+        hub,
+        region,
+        log,
+        CARD,
+        b"load State of orders",
+        ORDERS_STATE,
+        &mut state,
+    );
+    acts::store(
+        hub,
+        region,
+        next,
+        CARD,
+        b"charge slabs, store in the R/W section",
+        COMMON,
+        &[state[0]],
+    )
+}
+
+// A guest may not store to another's output section.
+fn trespass(hub: &Hub, region: &mut Region, log: Log) -> Log {
+    let next = acts::ask(
+        hub,
+        log,
+        TOUCH,
+        b"ask about the output section of planner",
+        PLANNER_OUTPUT,
+    );
+    acts::store(
+        hub,
+        region,
+        next,
+        TOUCH,
+        b"store basket in the output section of planner",
+        PLANNER_OUTPUT,
+        &[12, 6],
+    )
 }
 
 fn double_tap(hub: &mut Hub, region: &mut Region, log: Log) -> Log {
     let mut next = acts::press(hub, region, log);
     next = acts::press(hub, region, next);
-    acts::interrupt_control(hub, next, ORDERS)
+    acts::interrupt_control(hub, next)
 }
 
 fn closing(log: Log) {
@@ -63,14 +139,19 @@ fn closing(log: Log) {
 pub fn first(hub: &mut Hub, region: &mut Region) {
     let mut log = opening(hub, region, 0);
     log = basket(hub, region, log);
-    log = acts::ask(hub, log, TOUCH, PLANNER);
-    log = acts::store(hub, region, log, TOUCH, PLANNER, &[12, 6]);
+    log = trespass(hub, region, log);
     log = plan(hub, region, log);
     log = double_tap(hub, region, log);
     log = order(hub, region, log);
     log = pay(hub, region, log);
     log = acts::reset(hub, region, log, PLANNER);
     closing(log);
+}
+
+fn again(hub: &mut Hub, region: &mut Region, log: Log) -> Log {
+    let mut next = acts::press(hub, region, log);
+    next = acts::cut(hub, region, next);
+    acts::rearm(hub, region, next)
 }
 
 // The second tap is lost; a press after the guest has handled the order and re-armed is delivered.
@@ -82,9 +163,7 @@ pub fn second(hub: &mut Hub, region: &mut Region) {
     log = order(hub, region, log);
     log = pay(hub, region, log);
     log = acts::rearm(hub, region, log);
-    log = acts::press(hub, region, log);
-    log = acts::cut(hub, region, log);
-    log = acts::rearm(hub, region, log);
+    log = again(hub, region, log);
     log = acts::disconnect(hub, region, log, TOUCH);
     closing(log);
 }

@@ -6,19 +6,25 @@ use Rattle.terminal.proofs.print.bytes.Statement.{statement}
 use Rattle.terminal.proofs.print.bytes.Tie as tie
 
 abbrev Inv-loop : tie.InvT-loop
-Inv-loop b k₀ t3 k = Unit
+Inv-loop b k₀ t4 k = Unit
 
 abbrev μ-loop : tie.MeasureT-loop
-μ-loop b k₀ t3 k = length b - k
-
-loop-holds : tie.Need-loop-holds Inv-loop μ-loop
-loop-holds c = search needs
+μ-loop b k₀ t4 k = length b - k
 
 slice-aggregate-text : tie.Need-slice-aggregate-text Inv-loop μ-loop
 slice-aggregate-text c = search needs
 
 text-requires : tie.Need-text-requires Inv-loop μ-loop
 text-requires c κs = search needs
+
+loop-holds : tie.Need-loop-holds Inv-loop μ-loop
+loop-holds c = search needs
+
+slice-aggregate-text-2 : tie.Need-slice-aggregate-text-2 Inv-loop μ-loop
+slice-aggregate-text-2 c = search needs
+
+text-requires-2 : tie.Need-text-requires-2 Inv-loop μ-loop
+text-requires-2 c κs = search needs
 
 shared-slice-read-wide : tie.Need-shared-slice-read-wide Inv-loop μ-loop
 shared-slice-read-wide c = search needs
@@ -47,9 +53,11 @@ bytes-spec =
     (tie.spec
     Inv-loop
     μ-loop
-    loop-holds
     slice-aggregate-text
     text-requires
+    loop-holds
+    slice-aggregate-text-2
+    text-requires-2
     shared-slice-read-wide
     wide-requires
     decimal-requires

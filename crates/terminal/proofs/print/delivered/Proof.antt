@@ -16,12 +16,6 @@ slice-aggregate-text c = search needs
 text-requires : tie.Need-text-requires Inv-loop μ-loop
 text-requires c κs = search needs
 
-slice-aggregate-text-2 : tie.Need-slice-aggregate-text-2 Inv-loop μ-loop
-slice-aggregate-text-2 c = search needs
-
-text-requires-2 : tie.Need-text-requires-2 Inv-loop μ-loop
-text-requires-2 c κs = search needs
-
 loop-holds : tie.Need-loop-holds Inv-loop μ-loop
 loop-holds c = search needs
 
@@ -57,8 +51,6 @@ delivered-spec =
     μ-loop
     slice-aggregate-text
     text-requires
-    slice-aggregate-text-2
-    text-requires-2
     loop-holds
     comma-requires
     mul-delivery
