@@ -128,6 +128,21 @@ fn double_tap(hub: &mut Hub, region: &mut Region, log: Log) -> Log {
     acts::interrupt_control(hub, next)
 }
 
+fn sale(hub: &mut Hub, region: &mut Region, log: Log) -> Log {
+    let mut next = plan(hub, region, log);
+    next = double_tap(hub, region, next);
+    next = order(hub, region, next);
+    pay(hub, region, next)
+}
+
+// The guest has handled its order: the next press is a new one.
+fn second_sale(hub: &mut Hub, region: &mut Region, log: Log) -> Log {
+    let mut next = acts::rearm(hub, region, log);
+    next = acts::press(hub, region, next);
+    next = acts::cut(hub, region, next);
+    acts::rearm(hub, region, next)
+}
+
 fn closing(log: Log) {
     log::summary(log, TOUCH);
     log::summary(log, PLANNER);
@@ -140,30 +155,17 @@ pub fn first(hub: &mut Hub, region: &mut Region) {
     let mut log = opening(hub, region, 0);
     log = basket(hub, region, log);
     log = trespass(hub, region, log);
-    log = plan(hub, region, log);
-    log = double_tap(hub, region, log);
-    log = order(hub, region, log);
-    log = pay(hub, region, log);
+    log = sale(hub, region, log);
     log = acts::reset(hub, region, log, PLANNER);
     closing(log);
 }
 
-fn again(hub: &mut Hub, region: &mut Region, log: Log) -> Log {
-    let mut next = acts::press(hub, region, log);
-    next = acts::cut(hub, region, next);
-    acts::rearm(hub, region, next)
-}
-
-// The second tap is lost; a press after the guest has handled the order and re-armed is delivered.
+// The second tap is lost; a press after the guest has re-armed is delivered.
 pub fn second(hub: &mut Hub, region: &mut Region) {
     let mut log = opening(hub, region, 1);
     log = basket(hub, region, log);
-    log = plan(hub, region, log);
-    log = double_tap(hub, region, log);
-    log = order(hub, region, log);
-    log = pay(hub, region, log);
-    log = acts::rearm(hub, region, log);
-    log = again(hub, region, log);
+    log = sale(hub, region, log);
+    log = second_sale(hub, region, log);
     log = acts::disconnect(hub, region, log, TOUCH);
     closing(log);
 }
