@@ -18,7 +18,8 @@ const TOUCH_OUTPUT: u64 = 8192;
 
 const PLANNER_OUTPUT: u64 = 12288;
 
-fn opening(hub: &mut Hub, region: &mut Region, one_shot: u32) -> Log {
+// Four guests, with one-shot mode at orders off (0) or on (1).
+fn prepare(hub: &mut Hub, region: &mut Region, one_shot: u32) -> Log {
     let mut log = acts::set_up(hub, region, Log::new());
     log = acts::join(hub, region, log, TOUCH);
     log = acts::join(hub, region, log, PLANNER);
@@ -44,6 +45,7 @@ fn length(a: u8, b: u8) -> u8 {
     ((a as u64 + b as u64) % 256) as u8
 }
 
+// The planner adds the lengths up.
 fn plan(hub: &Hub, region: &mut Region, log: Log) -> Log {
     let mut pieces = [0u8; 2];
     let next = acts::load(
@@ -66,6 +68,7 @@ fn plan(hub: &Hub, region: &mut Region, log: Log) -> Log {
     )
 }
 
+// The orders guest takes the length, and cuts.
 fn order(hub: &mut Hub, region: &mut Region, log: Log) -> Log {
     let mut whole = [0u8; 1];
     let next = acts::load(
@@ -80,6 +83,7 @@ fn order(hub: &mut Hub, region: &mut Region, log: Log) -> Log {
     acts::cut(hub, region, next)
 }
 
+// The card terminal reads how many slabs were cut in the State Table, and leaves what it charged in R/W.
 fn pay(hub: &Hub, region: &mut Region, log: Log) -> Log {
     let mut state = [0u8; 4];
     let next = acts::load(
@@ -103,7 +107,7 @@ fn pay(hub: &Hub, region: &mut Region, log: Log) -> Log {
 }
 
 // A guest may not store to another's output section.
-fn trespass(hub: &Hub, region: &mut Region, log: Log) -> Log {
+fn refused_store(hub: &Hub, region: &mut Region, log: Log) -> Log {
     let next = acts::ask(
         hub,
         log,
@@ -143,7 +147,8 @@ fn second_sale(hub: &mut Hub, region: &mut Region, log: Log) -> Log {
     acts::rearm(hub, region, next)
 }
 
-fn closing(log: Log) {
+// The deliveries that each guest got.
+fn report(log: Log) {
     log::summary(log, TOUCH);
     log::summary(log, PLANNER);
     log::summary(log, ORDERS);
@@ -152,20 +157,20 @@ fn closing(log: Log) {
 
 // Both taps are delivered: two slabs for one order.
 pub fn first(hub: &mut Hub, region: &mut Region) {
-    let mut log = opening(hub, region, 0);
+    let mut log = prepare(hub, region, 0);
     log = basket(hub, region, log);
-    log = trespass(hub, region, log);
+    log = refused_store(hub, region, log);
     log = sale(hub, region, log);
     log = acts::reset(hub, region, log, PLANNER);
-    closing(log);
+    report(log);
 }
 
 // The second tap is lost; a press after the guest has re-armed is delivered.
 pub fn second(hub: &mut Hub, region: &mut Region) {
-    let mut log = opening(hub, region, 1);
+    let mut log = prepare(hub, region, 1);
     log = basket(hub, region, log);
     log = sale(hub, region, log);
     log = second_sale(hub, region, log);
     log = acts::disconnect(hub, region, log, TOUCH);
-    closing(log);
+    report(log);
 }
