@@ -1,0 +1,50 @@
+-- `terminal::log::with_all` is safe and ends.
+use Prim.Native.Nat.{_-_}
+use borrow.Author.Needs.{needs}
+use Rattle.terminal.proofs.log.with_all.Statement.{statement}
+use Rattle.terminal.proofs.log.with_all.Tie as tie
+
+abbrev Inv-loop : tie.InvT-loop
+Inv-loop count records next₀ k₀ next k = Unit
+
+abbrev μ-loop : tie.MeasureT-loop
+μ-loop count records next₀ k₀ next k = 8 - k
+
+loop-holds : tie.Need-loop-holds Inv-loop μ-loop
+loop-holds c = search needs
+
+mul-with : tie.Need-mul-with Inv-loop μ-loop
+mul-with c = search needs
+
+array-copy-out-with : tie.Need-array-copy-out-with Inv-loop μ-loop
+array-copy-out-with c = search needs
+
+with-requires : tie.Need-with-requires Inv-loop μ-loop
+with-requires c κs = search needs
+
+add-k : tie.Need-add-k Inv-loop μ-loop
+add-k c = search needs
+
+loop-less : tie.Need-loop-less Inv-loop μ-loop
+loop-less c = search needs
+
+loop-again : tie.Need-loop-again Inv-loop μ-loop
+loop-again c = search needs
+
+returns : tie.Need-returns Inv-loop μ-loop
+returns c = search needs
+
+pub with-all-spec : {M : Type 1} → statement M
+with-all-spec =
+    tie.close
+    (tie.spec
+    Inv-loop
+    μ-loop
+    loop-holds
+    mul-with
+    array-copy-out-with
+    with-requires
+    add-k
+    loop-less
+    loop-again
+    returns)
