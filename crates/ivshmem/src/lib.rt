@@ -1,4 +1,4 @@
-// The library that a host links: one exported function for each call, over plain numbers and lent memory. The calls that may
+// The library that a host links: one exported function for each call. Numbers are plain and memory is lent. The calls that may
 // ring other peers are here; host.rt and guest.rt have the others.
 use device::Delivery;
 use device::Reply;
