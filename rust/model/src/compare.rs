@@ -2,12 +2,14 @@
 
 use std::fmt;
 
+use ivshmem::{HUB_WORDS, Settings};
+
 use crate::call::Event;
 use crate::count::Counts;
 use crate::generate::Generator;
 use crate::layout::decode;
 use crate::shrink::shrink;
-use crate::subject::{Model, Subject};
+use crate::subject::{Answer, Model, Subject};
 use crate::world::World;
 
 /// A subject and the model, each with its own memory.
@@ -24,11 +26,24 @@ impl<S: Subject> Pair<S> {
         Pair { subject, model: Model::default(), ours: World::default(), models: World::default() }
     }
 
-    /// Lets the event happen on both sides and compares the answers and all memory.
+    /// The memory, which both sides agree about after an event without a difference.
+    pub fn world(&self) -> &World {
+        &self.models
+    }
+
+    /// Puts other words in the hub's place, and makes the region as long as the settings ask.
+    pub fn put(&mut self, words: &[u32; HUB_WORDS], settings: &Settings) {
+        for world in [&mut self.ours, &mut self.models] {
+            world.fit(settings);
+            world.set_hub_words(words);
+        }
+    }
+
+    /// Lets the event happen on both sides and compares the answers and all memory; a call's answer.
     ///
     /// # Errors
     /// The first difference, in words.
-    pub fn apply(&mut self, event: &Event, counts: &mut Counts) -> Result<(), String> {
+    pub fn apply(&mut self, event: &Event, counts: &mut Counts) -> Result<Option<Answer>, String> {
         let ours = self.ours.apply(&mut self.subject, event);
         let models = self.models.apply(&mut self.model, event);
         if let (Event::Call(call, _), Some(answer)) = (event, &models) {
@@ -37,7 +52,7 @@ impl<S: Subject> Pair<S> {
         if ours != models {
             return Err(format!("the answer is {ours:?}, and the model's {models:?}"));
         }
-        self.ours.difference(&self.models).map_or(Ok(()), Err)
+        self.ours.difference(&self.models).map_or(Ok(models), Err)
     }
 
     fn next_event(&self, generator: &mut Generator) -> Event {

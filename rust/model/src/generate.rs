@@ -4,8 +4,8 @@ use std::collections::VecDeque;
 
 use ivshmem::{HUB_WORDS, Settings};
 
-use crate::call::{Call, Event, Lengths, USUAL_RECORDS};
-use crate::hub::Hub;
+use crate::call::{Call, Event, KINDS, Lengths, USUAL_RECORDS};
+use crate::hub::{Hub, Numbers};
 use crate::random::Random;
 use crate::world::{LONGEST_REGION, MOST_RECORDS, MOST_WORDS};
 
@@ -13,6 +13,8 @@ const PAGE: u64 = 4096;
 const TOP: u64 = u64::MAX;
 /// What a 32-bit computation would lose.
 const HIGH: u64 = 1 << 32;
+/// The registers, one offset behind them and one in the middle of nothing.
+const REGISTERS: [u64; 7] = [0x00, 0x04, 0x08, 0x0c, 0x10, 0x14, 0x800];
 
 /// Makes events one at a time, looking at the hub as it stands.
 pub struct Generator {
@@ -30,7 +32,7 @@ impl Generator {
 
     /// Begins a history: a set-up, and most peers boot.
     pub fn begin(&mut self) {
-        self.left = 300 + self.random.below(700);
+        self.left = 600 + self.random.below(1400);
         self.planned.clear();
         self.plan_set_up();
     }
@@ -51,10 +53,10 @@ impl Generator {
             self.plan_sweep(hub);
         }
         match self.random.below(1000) {
-            0..3 => self.plan_refused_set_up(hub, total),
-            3..5 => self.plan_large_hub(),
-            5..9 => self.plan_damage(hub, total),
-            9..10 => self.plan_set_up(),
+            0..2 => self.plan_refused_set_up(hub, total),
+            2..3 => self.plan_large_hub(),
+            3..7 => self.plan_damage(hub, total),
+            7..8 => self.plan_set_up(),
             _ => {}
         }
         match self.planned.pop_front() {
@@ -66,6 +68,11 @@ impl Generator {
     /// A call, mostly with the right lengths.
     fn lent(&mut self, hub: &Hub, total: usize) -> Event {
         let call = self.call(hub, total);
+        Event::Call(call, self.lengths(hub, total))
+    }
+
+    /// Mostly the right lengths; a table as short as allowed, longer or too short.
+    pub fn lengths(&mut self, hub: &Hub, total: usize) -> Lengths {
         let mut lengths = Lengths::USUAL;
         match self.random.below(40) {
             0 => lengths.words = self.random.pick(&[0, 1, 10, HUB_WORDS - 1, HUB_WORDS + 1, MOST_WORDS]),
@@ -77,54 +84,73 @@ impl Generator {
             }
             _ => {}
         }
-        Event::Call(call, lengths)
+        lengths
     }
 
+    /// A call of a kind that is drawn by weight; set-ups are planned apart.
     fn call(&mut self, hub: &Hub, total: usize) -> Call {
+        const WEIGHTS: [u64; KINDS.len()] = [0, 2, 1, 1, 7, 10, 5, 60, 4, 10, 7, 6, 8];
+        let mut draw = self.random.below(WEIGHTS.iter().sum());
+        let kind = WEIGHTS.iter().position(|weight| match draw.checked_sub(*weight) {
+            Some(rest) => {
+                draw = rest;
+                false
+            }
+            None => true,
+        });
+        self.call_of_kind(kind.unwrap_or_default(), hub, total)
+    }
+
+    /// A call of this kind, by its place in [`KINDS`].
+    pub fn call_of_kind(&mut self, kind: usize, hub: &Hub, total: usize) -> Call {
         let id = self.id(hub);
-        match self.random.below(100) {
-            0..22 => self.doorbell(hub, id),
-            22..28 => Call::RegisterWrite { id, offset: 0x10, width: 4, value: self.value() },
-            28..36 => Call::RegisterWrite {
-                id,
-                offset: 0x08,
-                width: 4,
-                value: self.random.pick(&[1, 1, 1, 1, 0, u32::MAX, 2]),
-            },
-            36..40 => {
-                let (offset, width) = self.bar_access(&[0x00, 0x04, 0x08, 0x0c, 0x10, 0x14, 0x800]);
-                Call::RegisterWrite { id, offset, width, value: self.value() }
-            }
-            40..45 => {
-                let (offset, width) = self.bar_access(&[0x00, 0x04, 0x08, 0x0c, 0x10, 0x14, 0x800]);
-                Call::RegisterRead { id, offset, width }
-            }
-            45..51 => {
+        match kind {
+            0 => Call::SetUp(any_settings(&mut self.random)),
+            1 => self.connect(hub, id),
+            2 => Call::Disconnect { id },
+            3 => self.reset(hub, id),
+            4 => {
                 let (offset, width) = self.configuration_access();
                 Call::ConfigurationRead { id, offset, width }
             }
-            51..61 => self.configuration_write(id),
-            61..65 => {
+            5 => self.configuration_write(id),
+            6 => {
+                let (offset, width) = self.bar_access(&REGISTERS);
+                Call::RegisterRead { id, offset, width }
+            }
+            7 => self.register_write(hub, id),
+            8 => {
                 let (offset, width) = self.msix_access();
                 Call::MsixRead { id, offset, width }
             }
-            65..75 => self.msix_write(id),
-            75..80 => {
+            9 => self.msix_write(id),
+            10 => {
                 let (offset, length) = self.range(hub, id);
                 Call::Section { id, offset, length }
             }
-            80..85 => {
+            11 => {
                 let (offset, length) = self.buffer_range(hub, id, total);
                 Call::Load { id, offset, length }
             }
-            85..92 => {
+            _ => {
                 let (offset, length) = self.buffer_range(hub, id, total);
                 Call::Store { id, offset, length, fill: self.random.word() as u8 }
             }
-            92..96 => self.connect(hub, id),
-            96..98 => Call::Disconnect { id },
-            _ => self.reset(hub, id),
         }
+    }
+
+    /// Mostly a doorbell; often a new state, or Interrupt Control switched on again.
+    fn register_write(&mut self, hub: &Hub, id: u64) -> Call {
+        let (offset, width, value) = match self.random.below(40) {
+            0..22 => (0x0c, 4, self.doorbell(hub, id)),
+            22..26 => (0x10, 4, self.value()),
+            26..37 => (0x08, 4, self.random.pick(&[1, 1, 1, 1, 1, 1, 1, 1, 1, 0, u32::MAX, 2])),
+            _ => {
+                let (offset, width) = self.bar_access(&REGISTERS);
+                (offset, width, self.value())
+            }
+        };
+        Call::RegisterWrite { id, offset, width, value }
     }
 
     /// Mostly a connected peer; sometimes any, sometimes none.
@@ -146,7 +172,7 @@ impl Generator {
         self.random.pick(&[0, 1, 2, 3, u32::MAX, 0x8000_0000, any, any, any])
     }
 
-    fn doorbell(&mut self, hub: &Hub, id: u64) -> Call {
+    fn doorbell(&mut self, hub: &Hub, id: u64) -> u32 {
         let (peers, vectors) = (hub.numbers.peers, hub.numbers.vectors);
         let target = match self.random.below(24) {
             0 => self.random.pick(&[peers, peers + 1, 8, 9, 0x100, 0xffff]),
@@ -158,8 +184,7 @@ impl Generator {
             0 => self.random.pick(&[vectors, vectors + 1, 4, 5, 0x100, 0x8000, 0xffff]),
             _ => self.random.below(vectors.clamp(1, 4)),
         };
-        let value = (target as u32 & 0xffff) << 16 | vector as u32 & 0xffff;
-        Call::RegisterWrite { id, offset: 0x0c, width: 4, value }
+        (target as u32 & 0xffff) << 16 | vector as u32 & 0xffff
     }
 
     fn width(&mut self) -> u64 {
@@ -252,7 +277,10 @@ impl Generator {
                 self.random.pick(&[TOP, TOP - 1, TOP - 3, HIGH, HIGH + start, 1 << 30, 1 << 63]),
                 1 + self.random.below(8),
             ),
-            2 => (edge, self.random.pick(&[TOP, TOP - edge, (TOP - edge).saturating_add(1), HIGH, HIGH + 1, size + 1, 1 << 30])),
+            2 => (
+                edge,
+                self.random.pick(&[TOP, TOP - edge, (TOP - edge).saturating_add(1), HIGH, HIGH + 1, size + 1, 1 << 30]),
+            ),
             3 => (edge.saturating_sub(self.random.below(4)), 1 + self.random.below(8)),
             4 => (start, size),
             5 => (start, size + self.random.below(2)),
@@ -269,11 +297,13 @@ impl Generator {
     fn section(&mut self, hub: &Hub, id: u64) -> (u64, u64) {
         let n = &hub.numbers;
         let owner = if self.random.chance(1, 4) { self.random.below(8) } else { id.min(8) };
-        let outputs = n.state_table + n.read_write;
+        let output = (n.state_table + n.read_write + owner * n.output, n.output);
         match self.random.below(8) {
             0 => (0, n.state_table),
-            1..4 if n.read_write > 0 => (n.state_table, n.read_write),
-            _ => (outputs + owner * n.output, n.output),
+            1 => output,
+            2..5 if n.output > 0 => output,
+            _ if n.read_write > 0 => (n.state_table, n.read_write),
+            _ => output,
         }
     }
 
@@ -338,8 +368,7 @@ impl Generator {
         let wrong_length = Lengths { region: self.random.pick(&[-1, 1, 64, -4096]), ..Lengths::USUAL };
         let wrong_words = Lengths { words: self.random.pick(&[0, HUB_WORDS - 1, HUB_WORDS + 1]), ..Lengths::USUAL };
         for _ in 0..4 {
-            let settings =
-                if self.random.chance(1, 4) { good_settings(&mut self.random) } else { bad_settings(&mut self.random) };
+            let settings = any_settings(&mut self.random);
             let lengths = self.random.pick(&[Lengths::USUAL, wrong_length, wrong_length, wrong_words]);
             self.planned.push_back(Event::Call(Call::SetUp(settings), lengths));
             let call = self.call(hub, total);
@@ -351,7 +380,7 @@ impl Generator {
     /// A hub with sections near the largest, on which everything works that needs no region.
     fn plan_large_hub(&mut self) {
         let settings = large_settings(&mut self.random);
-        let mask = self.random.word() as u8 | 1;
+        let mask = (self.random.word() | self.random.word()) as u8 | 1;
         self.planned.push_back(Event::Plant(settings, mask));
         let hub = Hub::fresh((&settings).into());
         for _ in 0..24 {
@@ -414,12 +443,17 @@ pub fn good_settings(random: &mut Random) -> Settings {
     if peers > 4 && settings.output > PAGE {
         settings.output = PAGE;
     }
-    let total = crate::hub::Numbers::from(&settings).total();
+    let total = Numbers::from(&settings).total();
     debug_assert!(total <= LONGEST_REGION);
     let last = TOP - total as u64 + 1;
-    let any = random.next() / 2;
+    let any = random.long() / 2;
     settings.base = random.pick(&[0, PAGE, HIGH - PAGE, any - any % PAGE, last]);
     settings
+}
+
+/// Mostly bad settings.
+pub fn any_settings(random: &mut Random) -> Settings {
+    if random.chance(1, 4) { good_settings(random) } else { bad_settings(random) }
 }
 
 /// Settings with one number at or over an edge; now and then they are good all the same.
@@ -435,7 +469,7 @@ pub fn bad_settings(random: &mut Random) -> Settings {
         4 => Settings { output: random.pick(&[wrong_size, 1 << 61, 1 << 62, 1 << 29, 1 << 27]), ..good },
         5 => Settings { base: random.pick(&[1, 4095, TOP, TOP - 4095, good.base + 1]), ..good },
         6 => {
-            let total = crate::hub::Numbers::from(&good).total() as u64;
+            let total = Numbers::from(&good).total() as u64;
             Settings { base: (TOP - total + 1).wrapping_add(random.pick(&[PAGE, 0, 1, TOP - PAGE + 1])), ..good }
         }
         7 => {
@@ -443,7 +477,7 @@ pub fn bad_settings(random: &mut Random) -> Settings {
             large.read_write += random.pick(&[PAGE, 0, 2 * PAGE]);
             large
         }
-        _ => Settings { peers: random.next(), vectors: random.next(), state_table: random.next(), ..good },
+        _ => Settings { peers: random.long(), vectors: random.long(), state_table: random.long(), ..good },
     }
 }
 

@@ -47,6 +47,18 @@ impl World {
         &self.words[..HUB_WORDS]
     }
 
+    /// The shared bytes.
+    #[must_use]
+    pub fn region(&self) -> &[u8] {
+        &self.region[..self.total]
+    }
+
+    /// The delivery table.
+    #[must_use]
+    pub fn table(&self) -> &[Delivery] {
+        &self.table
+    }
+
     /// The region's right length.
     #[must_use]
     pub fn total(&self) -> usize {
