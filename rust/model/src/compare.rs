@@ -47,7 +47,7 @@ impl<S: Subject> Pair<S> {
         let ours = self.ours.apply(&mut self.subject, event);
         let models = self.models.apply(&mut self.model, event);
         if let (Event::Call(call, _), Some(answer)) = (event, &models) {
-            counts.add(call, answer, &self.model.rings);
+            counts.add(call, answer, &self.model);
         }
         if ours != models {
             return Err(format!("the answer is {ours:?}, and the model's {models:?}"));

@@ -4,7 +4,7 @@ use std::fmt;
 
 use crate::call::{Call, KINDS};
 use crate::hub::{Block, Ring};
-use crate::subject::Answer;
+use crate::subject::{Answer, Model};
 
 /// The numbers that each kind of call can answer, in the order of [`KINDS`].
 pub const POSSIBLE: [&[u32]; 13] = [
@@ -21,6 +21,18 @@ pub const POSSIBLE: [&[u32]; 13] = [
     &[0, 3, 4, 6, 8, 10],
     &[0, 2, 3, 4, 6, 8, 10],
     &[0, 2, 3, 4, 6, 8, 9, 10],
+];
+
+/// The refusals that can apply beside one that is given: with these pairs the order of the checks is seen.
+pub const BESIDE: [(u32, &[u32]); 8] = [
+    (10, &[2, 11, 3, 4, 5, 6, 7, 8, 9]),
+    (1, &[2]),
+    (2, &[11, 3, 4, 6, 7, 8, 9]),
+    (11, &[3, 4, 6, 7, 8]),
+    (3, &[6, 7, 8, 9]),
+    (4, &[6, 7, 8, 9]),
+    (6, &[7, 8]),
+    (7, &[8]),
 ];
 
 /// The reasons that a ring can be lost for alone, with their names.
@@ -40,6 +52,8 @@ pub const BLOCKS: [(Block, &str); 8] = [
 pub struct Counts {
     /// Calls of each kind, by the number answered.
     pub calls: [[u64; 12]; 13],
+    /// Refusals by the number given, and by a number that applied too and comes later in the order.
+    pub beside: [[u64; 12]; 12],
     /// Rings delivered.
     pub delivered: u64,
     /// Calls that delivered more than one ring.
@@ -60,10 +74,13 @@ impl Counts {
     }
 
     /// Takes in one call.
-    pub fn add(&mut self, call: &Call, answer: &Answer, rings: &[Ring]) {
-        self.calls[call.kind()][answer.number.min(11) as usize] += 1;
+    pub fn add(&mut self, call: &Call, answer: &Answer, model: &Model) {
+        self.calls[call.kind()][answer.number as usize] += 1;
         self.several += u64::from(answer.count > 1);
-        for ring in rings {
+        for also in &model.also {
+            self.beside[answer.number as usize][*also as usize] += 1;
+        }
+        for ring in &model.rings {
             match ring {
                 Ring::Delivered(_, one_shot) => {
                     self.delivered += 1;
@@ -93,6 +110,12 @@ impl Counts {
                 }
             }
         }
+        for (given, also) in BESIDE.iter().flat_map(|(given, others)| others.iter().map(move |also| (given, also))) {
+            let count = self.beside[*given as usize][*also as usize];
+            if count < least {
+                gaps.push(format!("refused with {given} where {also} applies too: {count} times"));
+            }
+        }
         let rings = BLOCKS.iter().map(|(_, name)| *name).zip(self.lost_alone);
         let others = [("delivered", self.delivered), ("one-shot", self.one_shot), ("several", self.several)];
         let few = rings.chain(others).filter(|&(_, count)| count < least);
@@ -119,6 +142,13 @@ impl fmt::Display for Counts {
             writeln!(f)?;
         }
         writeln!(f, "calls in all: {}", self.total())?;
+        for (given, others) in BESIDE {
+            write!(f, "refused with {given:>2} where another applies too:")?;
+            for also in others {
+                write!(f, " {also}: {},", self.beside[given as usize][*also as usize])?;
+            }
+            writeln!(f)?;
+        }
         writeln!(f, "rings delivered: {} (clearing a one-shot: {})", self.delivered, self.one_shot)?;
         writeln!(f, "calls that delivered more than one ring: {}", self.several)?;
         for ((_, name), count) in BLOCKS.iter().zip(self.lost_alone) {

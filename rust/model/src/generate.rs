@@ -21,13 +21,14 @@ pub struct Generator {
     random: Random,
     planned: VecDeque<Event>,
     left: u64,
+    careless: bool,
 }
 
 impl Generator {
     /// The same seed gives the same histories.
     #[must_use]
     pub fn new(seed: u64) -> Generator {
-        Generator { random: Random::new(seed), planned: VecDeque::new(), left: 0 }
+        Generator { random: Random::new(seed), planned: VecDeque::new(), left: 0, careless: false }
     }
 
     /// Begins a history: a set-up, and most peers boot.
@@ -61,34 +62,36 @@ impl Generator {
         }
         match self.planned.pop_front() {
             Some(event) => event,
-            None => self.lent(hub, total),
+            None => self.any_call(hub, total),
         }
     }
 
-    /// A call, mostly with the right lengths.
-    fn lent(&mut self, hub: &Hub, total: usize) -> Event {
-        let call = self.call(hub, total);
-        Event::Call(call, self.lengths(hub, total))
+    /// True once in so many times, and every other time where all goes wrong.
+    fn slips(&mut self, one_in: u64) -> bool {
+        self.random.chance(1, if self.careless { 2 } else { one_in })
     }
 
     /// Mostly the right lengths; a table as short as allowed, longer or too short.
-    pub fn lengths(&mut self, hub: &Hub, total: usize) -> Lengths {
+    fn lengths(&mut self, hub: &Hub, total: usize) -> Lengths {
+        let peers = hub.numbers.peers.clamp(1, 8);
         let mut lengths = Lengths::USUAL;
-        match self.random.below(40) {
-            0 => lengths.words = self.random.pick(&[0, 1, 10, HUB_WORDS - 1, HUB_WORDS + 1, MOST_WORDS]),
-            1 => lengths.region = self.random.pick(&[-1, 1, -4096, 4, 64, -(total as i64), 8 - total as i64]),
-            2 => lengths.records = self.random.below(hub.numbers.peers.clamp(1, 8)) as usize,
-            3..8 => lengths.records = hub.numbers.peers.min(8) as usize,
-            8 => {
-                lengths.records = USUAL_RECORDS + 1 + self.random.below((MOST_RECORDS - USUAL_RECORDS) as u64) as usize
-            }
-            _ => {}
+        if self.random.chance(1, 40) {
+            lengths.words = self.random.pick(&[0, 1, 10, HUB_WORDS - 1, HUB_WORDS + 1, MOST_WORDS]);
+        }
+        if self.slips(40) {
+            lengths.region = self.random.pick(&[-1, 1, -4096, 4, 64, -(total as i64), 8 - total as i64]);
+        }
+        let longer = USUAL_RECORDS as u64 + 1 + self.random.below((MOST_RECORDS - USUAL_RECORDS) as u64);
+        if self.slips(40) {
+            lengths.records = self.random.below(peers) as usize;
+        } else if self.random.chance(1, 6) {
+            lengths.records = self.random.pick(&[peers, longer]) as usize;
         }
         lengths
     }
 
     /// A call of a kind that is drawn by weight; set-ups are planned apart.
-    fn call(&mut self, hub: &Hub, total: usize) -> Call {
+    fn any_call(&mut self, hub: &Hub, total: usize) -> Event {
         const WEIGHTS: [u64; KINDS.len()] = [0, 2, 1, 1, 7, 10, 5, 60, 4, 10, 7, 6, 8];
         let mut draw = self.random.below(WEIGHTS.iter().sum());
         let kind = WEIGHTS.iter().position(|weight| match draw.checked_sub(*weight) {
@@ -101,8 +104,16 @@ impl Generator {
         self.call_of_kind(kind.unwrap_or_default(), hub, total)
     }
 
-    /// A call of this kind, by its place in [`KINDS`].
-    pub fn call_of_kind(&mut self, kind: usize, hub: &Hub, total: usize) -> Call {
+    /// A call of this kind, by its place in [`KINDS`], with the lengths that it is lent.
+    pub fn call_of_kind(&mut self, kind: usize, hub: &Hub, total: usize) -> Event {
+        self.careless = self.random.chance(1, 12);
+        let call = self.arguments(kind, hub, total);
+        let lengths = self.lengths(hub, total);
+        self.careless = false;
+        Event::Call(call, lengths)
+    }
+
+    fn arguments(&mut self, kind: usize, hub: &Hub, total: usize) -> Call {
         let id = self.id(hub);
         match kind {
             0 => Call::SetUp(any_settings(&mut self.random)),
@@ -141,7 +152,8 @@ impl Generator {
 
     /// Mostly a doorbell; often a new state, or Interrupt Control switched on again.
     fn register_write(&mut self, hub: &Hub, id: u64) -> Call {
-        let (offset, width, value) = match self.random.below(40) {
+        let draw = if self.careless { 39 } else { self.random.below(40) };
+        let (offset, width, value) = match draw {
             0..22 => (0x0c, 4, self.doorbell(hub, id)),
             22..26 => (0x10, 4, self.value()),
             26..37 => (0x08, 4, self.random.pick(&[1, 1, 1, 1, 1, 1, 1, 1, 1, 0, u32::MAX, 2])),
@@ -156,15 +168,13 @@ impl Generator {
     /// Mostly a connected peer; sometimes any, sometimes none.
     fn id(&mut self, hub: &Hub) -> u64 {
         let peers = hub.numbers.peers.clamp(1, 8);
-        match self.random.below(40) {
-            0 => self.random.pick(&[peers, peers + 1, 7, 8, 9, 255, HIGH, HIGH + 1, TOP]),
-            1..4 => self.random.below(peers),
-            _ => {
-                let start = self.random.below(peers);
-                let connected = |id: &u64| hub.peers[*id as usize].connected == 1;
-                (0..peers).map(|step| (start + step) % peers).find(connected).unwrap_or(start)
-            }
+        if self.slips(40) {
+            return self.random.pick(&[peers, peers + 1, 7, 8, 9, 255, HIGH, HIGH + 1, TOP]);
         }
+        let start = self.random.below(peers);
+        let connected = |id: &u64| hub.peers[*id as usize].connected == 1;
+        let found = (0..peers).map(|step| (start + step) % peers).find(connected);
+        found.filter(|_| !self.slips(12)).unwrap_or(start)
     }
 
     fn value(&mut self) -> u32 {
@@ -188,15 +198,17 @@ impl Generator {
     }
 
     fn width(&mut self) -> u64 {
-        match self.random.below(16) {
-            0 => self.random.pick(&[0, 3, 5, 6, 7, 8, 16, 255, 256, HIGH + 1, HIGH + 4, TOP, TOP - 3]),
-            _ => self.random.pick(&[1, 2, 4]),
+        if self.slips(16) {
+            self.random.pick(&[0, 3, 5, 6, 7, 8, 16, 255, 256, HIGH + 1, HIGH + 4, TOP, TOP - 3])
+        } else {
+            self.random.pick(&[1, 2, 4])
         }
     }
 
     fn configuration_access(&mut self) -> (u64, u64) {
         let width = self.width();
-        let offset = match self.random.below(16) {
+        let draw = if self.slips(16) { 0 } else { 1 + self.random.below(15) };
+        let offset = match draw {
             0 => self.random.pick(&[252, 254, 255, 256, 257, 258, 260, 4096, HIGH, HIGH + 4, TOP, TOP - 1, TOP - 3]),
             1..8 => {
                 const NAMED: [u64; 16] =
@@ -211,14 +223,15 @@ impl Generator {
     /// Mostly on a multiple of the width.
     fn align(&mut self, offset: u64, width: u64) -> (u64, u64) {
         match width {
-            1 | 2 | 4 if !self.random.chance(1, 12) => (offset - offset % width, width),
+            1 | 2 | 4 if !self.slips(12) => (offset - offset % width, width),
             _ => (offset, width),
         }
     }
 
     /// Mostly a guest that switches something on.
     fn configuration_write(&mut self, id: u64) -> Call {
-        let (offset, width, value) = match self.random.below(24) {
+        let draw = if self.careless { 23 } else { self.random.below(24) };
+        let (offset, width, value) = match draw {
             0..6 => (0x04, 2, self.random.pick(&[0x0006, 0x0006, 0x0006, 0x0406, 0xffff, 0x0002, 0x0004, 0])),
             6..12 => (0x63, 1, self.random.pick(&[0x80, 0x80, 0x80, 0x80, 0xff, 0xc0, 0x00, 0x40])),
             12..15 => (0x60, 4, self.random.pick(&[0x8000_0000, 0x8000_0000, u32::MAX, 0x4000_0000])),
@@ -234,8 +247,9 @@ impl Generator {
 
     /// An access to one of the named offsets or at an edge of a 4096-byte space, mostly 4 bytes.
     fn bar_access(&mut self, named: &[u64]) -> (u64, u64) {
-        let width = if self.random.chance(1, 16) { self.width() } else { 4 };
-        let offset = match self.random.below(16) {
+        let width = if self.slips(16) { self.width() } else { 4 };
+        let draw = if self.slips(8) { self.random.below(2) } else { 2 + self.random.below(14) };
+        let offset = match draw {
             0 => self.random.pick(&[PAGE, PAGE + 4, PAGE - 2, HIGH, HIGH + 8, HIGH + 12, TOP, TOP - 3, TOP - 7]),
             1 => self.random.pick(&[1, 2, 3, 5, 9, 0x0d, 0x0e, 0x11, PAGE - 1, PAGE - 3]),
             2 => PAGE - 4,
@@ -252,7 +266,7 @@ impl Generator {
 
     /// Mostly a guest that takes a mask off.
     fn msix_write(&mut self, id: u64) -> Call {
-        if self.random.chance(1, 2) {
+        if !self.careless && self.random.chance(1, 2) {
             let offset = 16 * self.random.below(4) + 12;
             return Call::MsixWrite {
                 id,
@@ -271,7 +285,8 @@ impl Generator {
     fn range(&mut self, hub: &Hub, id: u64) -> (u64, u64) {
         let (start, size) = self.section(hub, id);
         let edge = self.random.pick(&[start, start + size, start + size / 2]);
-        match self.random.below(24) {
+        let draw = self.random.below(if self.careless { 8 } else { 24 });
+        match draw {
             0 => (start, 0),
             1 => (
                 self.random.pick(&[TOP, TOP - 1, TOP - 3, HIGH, HIGH + start, 1 << 30, 1 << 63]),
@@ -371,8 +386,8 @@ impl Generator {
             let settings = any_settings(&mut self.random);
             let lengths = self.random.pick(&[Lengths::USUAL, wrong_length, wrong_length, wrong_words]);
             self.planned.push_back(Event::Call(Call::SetUp(settings), lengths));
-            let call = self.call(hub, total);
-            self.planned.push_back(call.into());
+            let event = self.any_call(hub, total);
+            self.planned.push_back(event);
         }
         self.plan_set_up();
     }
@@ -389,8 +404,8 @@ impl Generator {
             let length = if self.random.chance(1, 2) { length } else { 1 + self.random.below(4) };
             self.planned.push_back(Call::Section { id, offset, length }.into());
             if self.random.chance(1, 2) {
-                let call = self.call(&hub, 0);
-                self.planned.push_back(call.into());
+                let event = self.any_call(&hub, 0);
+                self.planned.push_back(event);
             }
         }
         for offset in (0x40..0x60).step_by(4) {
@@ -405,7 +420,7 @@ impl Generator {
         let bits = 1 << self.random.below(32) | 1 << self.random.below(32);
         self.planned.push_back(Event::Flip { word, bits });
         for _ in 0..4 {
-            let event = self.lent(hub, total);
+            let event = self.any_call(hub, total);
             self.planned.push_back(event);
         }
         self.planned.push_back(Event::Flip { word, bits });

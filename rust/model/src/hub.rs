@@ -158,6 +158,23 @@ pub enum Ring {
     Lost(Vec<Block>),
 }
 
+/// The numbers of all refusals that apply to a call, in the paper's order: the first is the one given.
+#[derive(Clone, Debug, PartialEq, Eq)]
+pub struct Refused(pub Vec<u32>);
+
+impl Refused {
+    /// The number given.
+    #[must_use]
+    pub fn number(&self) -> u32 {
+        self.0[0]
+    }
+}
+
+fn refuse_where(checks: &[(u32, bool)]) -> Result<(), Refused> {
+    let numbers: Vec<u32> = checks.iter().filter(|(_, applies)| *applies).map(|(number, _)| *number).collect();
+    if numbers.is_empty() { Ok(()) } else { Err(Refused(numbers)) }
+}
+
 /// What a call asks for, as far as refusals look at it.
 struct Request {
     /// Length of the lent region, where one is lent.
@@ -230,42 +247,40 @@ impl Hub {
             })
     }
 
-    /// "When the hub says no", in the paper's order; 1 belongs to set-up alone.
-    fn refuse(&self, request: &Request) -> Result<(), u32> {
-        if !self.sound() {
-            return Err(10);
-        }
-        if request.region.is_some_and(|bytes| bytes as u128 != self.numbers.total()) {
-            return Err(2);
-        }
-        if request.records.is_some_and(|records| (records as u64) < self.numbers.peers) {
-            return Err(11);
-        }
-        if request.id >= self.numbers.peers {
-            return Err(3);
-        }
-        let connected = self.peers[request.id as usize].connected == 1;
-        match (request.connect, connected) {
-            (false, false) => Err(4),
-            (true, true) => Err(5),
-            _ => self.refuse_access(request.id, &request.access),
-        }
+    /// "When the hub says no": all refusals that apply, in the paper's order. 1 belongs to set-up alone.
+    fn refuse(&self, request: &Request) -> Result<(), Refused> {
+        let Request { region, records, id, connect, .. } = *request;
+        let exists = id < self.numbers.peers;
+        let connected = self.peers.get(id as usize).is_some_and(|peer| peer.connected == 1);
+        let [width, alignment, range, right] = self.refuse_access(id, &request.access);
+        refuse_where(&[
+            (10, !self.sound()),
+            (2, region.is_some_and(|bytes| bytes as u128 != self.numbers.total())),
+            (11, records.is_some_and(|records| (records as u64) < self.numbers.peers)),
+            (3, !exists),
+            (4, exists && !connect && !connected),
+            (5, exists && connect && connected),
+            (6, width),
+            (7, alignment),
+            (8, range),
+            (9, right),
+        ])
     }
 
-    fn refuse_access(&self, id: u64, access: &Access) -> Result<(), u32> {
+    /// Whether 6, 7, 8 and 9 apply.
+    fn refuse_access(&self, id: u64, access: &Access) -> [bool; 4] {
         match *access {
-            Access::None => Ok(()),
-            Access::Space { widths, width, .. } if !widths.contains(&width) => Err(6),
-            Access::Space { offset, width, .. } if !offset.is_multiple_of(width) => Err(7),
-            Access::Space { bytes, offset, width, .. } if offset.checked_add(width).is_none_or(|end| end > bytes) => {
-                Err(8)
-            }
-            Access::Space { .. } => Ok(()),
-            Access::Shared { length: 0, .. } => Err(6),
+            Access::None => [false; 4],
+            Access::Space { bytes, widths, offset, width } => [
+                !widths.contains(&width),
+                width != 0 && !offset.is_multiple_of(width),
+                offset.checked_add(width).is_none_or(|end| end > bytes),
+                false,
+            ],
+            Access::Shared { length: 0, .. } => [true, false, false, false],
             Access::Shared { offset, length, store } => match self.section_of(offset, length) {
-                None => Err(8),
-                Some(section) if store && !may_store(id, section) => Err(9),
-                Some(_) => Ok(()),
+                None => [false, false, true, false],
+                Some(section) => [false, false, false, store && !may_store(id, section)],
             },
         }
     }
@@ -274,13 +289,8 @@ impl Hub {
     ///
     /// # Errors
     /// 1 or 2.
-    pub fn set_up(numbers: Numbers, region: &mut [u8]) -> Result<Hub, u32> {
-        if !numbers.accepted() {
-            return Err(1);
-        }
-        if region.len() as u128 != numbers.total() {
-            return Err(2);
-        }
+    pub fn set_up(numbers: Numbers, region: &mut [u8]) -> Result<Hub, Refused> {
+        refuse_where(&[(1, !numbers.accepted()), (2, region.len() as u128 != numbers.total())])?;
         region.fill(0);
         Ok(Hub::fresh(numbers))
     }
@@ -289,7 +299,7 @@ impl Hub {
     ///
     /// # Errors
     /// 10, 3 or 5.
-    pub fn connect(&mut self, id: u64) -> Result<(), u32> {
+    pub fn connect(&mut self, id: u64) -> Result<(), Refused> {
         self.refuse(&Request { connect: true, ..Request::new(id, Access::None) })?;
         self.peers[id as usize] = Peer::FRESH;
         Ok(())
@@ -299,7 +309,7 @@ impl Hub {
     ///
     /// # Errors
     /// 10, 2, 11, 3 or 4.
-    pub fn reset(&mut self, region: &mut [u8], records: usize, id: u64) -> Result<Vec<Ring>, u32> {
+    pub fn reset(&mut self, region: &mut [u8], records: usize, id: u64) -> Result<Vec<Ring>, Refused> {
         self.leave(region, records, id, Peer::FRESH)
     }
 
@@ -307,11 +317,11 @@ impl Hub {
     ///
     /// # Errors
     /// 10, 2, 11, 3 or 4.
-    pub fn disconnect(&mut self, region: &mut [u8], records: usize, id: u64) -> Result<Vec<Ring>, u32> {
+    pub fn disconnect(&mut self, region: &mut [u8], records: usize, id: u64) -> Result<Vec<Ring>, Refused> {
         self.leave(region, records, id, Peer::RESET)
     }
 
-    fn leave(&mut self, region: &mut [u8], records: usize, id: u64, after: Peer) -> Result<Vec<Ring>, u32> {
+    fn leave(&mut self, region: &mut [u8], records: usize, id: u64, after: Peer) -> Result<Vec<Ring>, Refused> {
         self.refuse(&Request::new(id, Access::None).region(region.len()).records(records))?;
         self.peers[id as usize] = after;
         set_table_entry(region, id, 0);
@@ -347,7 +357,7 @@ impl Hub {
 
     /// # Errors
     /// 10, 3, 4, 6, 7 or 8.
-    pub fn configuration_read(&self, id: u64, offset: u64, width: u64) -> Result<u32, u32> {
+    pub fn configuration_read(&self, id: u64, offset: u64, width: u64) -> Result<u32, Refused> {
         self.refuse(&Request::new(id, configuration_access(offset, width)))?;
         let (start, width) = (offset as usize, width as usize);
         let mut bytes = [0; 4];
@@ -357,7 +367,7 @@ impl Hub {
 
     /// # Errors
     /// 10, 3, 4, 6, 7 or 8.
-    pub fn configuration_write(&mut self, id: u64, offset: u64, width: u64, value: u32) -> Result<(), u32> {
+    pub fn configuration_write(&mut self, id: u64, offset: u64, width: u64, value: u32) -> Result<(), Refused> {
         self.refuse(&Request::new(id, configuration_access(offset, width)))?;
         let mut space = self.configuration(id as usize);
         for (at, byte) in (offset as usize..).zip(value.to_le_bytes()).take(width as usize) {
@@ -381,7 +391,7 @@ impl Hub {
 
     /// # Errors
     /// 10, 3, 4, 6, 7 or 8.
-    pub fn register_read(&self, id: u64, offset: u64, width: u64) -> Result<u32, u32> {
+    pub fn register_read(&self, id: u64, offset: u64, width: u64) -> Result<u32, Refused> {
         self.refuse(&Request::new(id, bar_access(offset, width)))?;
         if self.hidden(id) {
             return Ok(0xffff_ffff);
@@ -405,7 +415,7 @@ impl Hub {
         id: u64,
         (offset, width): (u64, u64),
         value: u32,
-    ) -> Result<Vec<Ring>, u32> {
+    ) -> Result<Vec<Ring>, Refused> {
         self.refuse(&Request::new(id, bar_access(offset, width)).region(region.len()).records(records))?;
         if self.hidden(id) {
             return Ok(Vec::new());
@@ -429,7 +439,7 @@ impl Hub {
 
     /// # Errors
     /// 10, 3, 4, 6, 7 or 8.
-    pub fn msix_read(&self, id: u64, offset: u64, width: u64) -> Result<u32, u32> {
+    pub fn msix_read(&self, id: u64, offset: u64, width: u64) -> Result<u32, Refused> {
         self.refuse(&Request::new(id, bar_access(offset, width)))?;
         if self.hidden(id) {
             return Ok(0xffff_ffff);
@@ -448,7 +458,7 @@ impl Hub {
 
     /// # Errors
     /// 10, 3, 4, 6, 7 or 8.
-    pub fn msix_write(&mut self, id: u64, offset: u64, width: u64, value: u32) -> Result<(), u32> {
+    pub fn msix_write(&mut self, id: u64, offset: u64, width: u64, value: u32) -> Result<(), Refused> {
         self.refuse(&Request::new(id, bar_access(offset, width)))?;
         if self.hidden(id) || offset / 16 >= self.numbers.vectors {
             return Ok(());
@@ -533,7 +543,8 @@ impl Hub {
         if inside(state_table, read_write) {
             return Some(Section::ReadWrite);
         }
-        let owner = (0..peers).find(|owner| inside(state_table + read_write + owner * output, output));
+        let owner =
+            (0..peers.min(MAX_PEERS as u64)).find(|owner| inside(state_table + read_write + owner * output, output));
         owner.map(|owner| Section::Output(PeerId(owner as u32)))
     }
 
@@ -541,15 +552,15 @@ impl Hub {
     ///
     /// # Errors
     /// 10, 3, 4, 6 or 8.
-    pub fn section(&self, id: u64, offset: u64, length: u64) -> Result<Placement, u32> {
+    pub fn section(&self, id: u64, offset: u64, length: u64) -> Result<Placement, Refused> {
         self.refuse(&Request::new(id, Access::Shared { offset, length, store: false }))?;
-        let section = self.section_of(offset, length).ok_or(8_u32)?;
+        let section = self.section_of(offset, length).ok_or(Refused(vec![8]))?;
         Ok(Placement { section, store: may_store(id, section) })
     }
 
     /// # Errors
     /// 10, 2, 3, 4, 6 or 8.
-    pub fn load(&self, region: &[u8], id: u64, offset: u64, buffer: &mut [u8]) -> Result<(), u32> {
+    pub fn load(&self, region: &[u8], id: u64, offset: u64, buffer: &mut [u8]) -> Result<(), Refused> {
         let access = Access::Shared { offset, length: buffer.len() as u64, store: false };
         self.refuse(&Request::new(id, access).region(region.len()))?;
         buffer.copy_from_slice(&region[offset as usize..][..buffer.len()]);
@@ -558,7 +569,7 @@ impl Hub {
 
     /// # Errors
     /// 10, 2, 3, 4, 6, 8 or 9.
-    pub fn store(&self, region: &mut [u8], id: u64, offset: u64, bytes: &[u8]) -> Result<(), u32> {
+    pub fn store(&self, region: &mut [u8], id: u64, offset: u64, bytes: &[u8]) -> Result<(), Refused> {
         let access = Access::Shared { offset, length: bytes.len() as u64, store: true };
         self.refuse(&Request::new(id, access).region(region.len()))?;
         region[offset as usize..][..bytes.len()].copy_from_slice(bytes);

@@ -4,13 +4,17 @@ use crate::call::{Call, Event, Lengths};
 use crate::compare::{Failure, replay};
 use crate::subject::Subject;
 
+/// How often a number is made simpler, and how often the whole is gone over.
+const ROUNDS: usize = 50;
+
 /// The shortest history found that still shows a difference.
 pub fn shrink<S: Subject>(make: &impl Fn() -> S, mut events: Vec<Event>) -> Failure {
     let found_after = events.len();
     cut_after_failure(make, &mut events);
-    loop {
+    for _ in 0..ROUNDS {
         let before = events.clone();
         drop_events(make, &mut events);
+        drop_pairs(make, &mut events);
         simplify_events(make, &mut events);
         if events == before {
             break;
@@ -44,14 +48,30 @@ fn drop_events<S: Subject>(make: &impl Fn() -> S, events: &mut Vec<Event>) {
     }
 }
 
+/// Two events that undo each other only go together; this looks at all pairs, so the history must be short by now.
+fn drop_pairs<S: Subject>(make: &impl Fn() -> S, events: &mut Vec<Event>) {
+    let pairs = |length: usize| (0..length).flat_map(move |second| (0..second).map(move |first| (first, second)));
+    while let Some(shorter) = pairs(events.len().min(40)).find_map(|(first, second)| {
+        let mut shorter = events.clone();
+        shorter.remove(second);
+        shorter.remove(first);
+        replay(make(), &shorter).map(|_| shorter)
+    }) {
+        *events = shorter;
+    }
+}
+
 fn simplify_events<S: Subject>(make: &impl Fn() -> S, events: &mut Vec<Event>) {
     for at in 0..events.len() {
-        // Each round takes the first simpler form that still fails, until none does.
-        while let Some(simpler) = simpler_forms(&events[at]).into_iter().find(|form| {
-            let mut candidate = events.clone();
-            candidate[at] = form.clone();
-            replay(make(), &candidate).is_some()
-        }) {
+        // Each round takes the first simpler form that still fails. Going down by ones can take long, so not all the way.
+        for _ in 0..ROUNDS {
+            let Some(simpler) = simpler_forms(&events[at]).into_iter().find(|form| {
+                let mut candidate = events.clone();
+                candidate[at] = form.clone();
+                replay(make(), &candidate).is_some()
+            }) else {
+                break;
+            };
             events[at] = simpler;
         }
     }
@@ -78,7 +98,7 @@ fn simpler_forms(event: &Event) -> Vec<Event> {
 fn simpler_calls(call: &Call) -> Vec<Call> {
     let mut forms = Vec::new();
     for field in 0..9 {
-        for step in 0..4 {
+        for step in 0..5 {
             let mut form = call.clone();
             if let Some(number) = field_of(&mut form, field) {
                 number.lower(step);
@@ -106,6 +126,7 @@ impl Field<'_> {
             0 => 0,
             1 => number.min(1),
             2 => number / 2,
+            3 => number - number.checked_ilog2().map_or(0, |bit| 1 << bit),
             _ => number.saturating_sub(1),
         };
         match self {

@@ -4,7 +4,7 @@ use ivshmem::raw::{self, Counted, Reply};
 use ivshmem::{Delivery, Section};
 
 use crate::call::Call;
-use crate::hub::{Hub, Numbers, Ring};
+use crate::hub::{Hub, Numbers, Refused, Ring};
 use crate::layout::{decode, encode};
 
 /// Everything that a call answers; what its kind has not stays 0.
@@ -75,26 +75,29 @@ impl Subject for Library {
     }
 }
 
-/// The model. It also keeps what became of the rings of the last call, to be counted.
+/// The model. It also keeps what happened in the last call, to be counted.
 #[derive(Default)]
 pub struct Model {
-    /// The rings of the last call, in order.
+    /// What became of its rings, in order.
     pub rings: Vec<Ring>,
+    /// The refusals that applied beside the one given.
+    pub also: Vec<u32>,
 }
 
 impl Subject for Model {
     fn perform(&mut self, call: &Call, lent: Lent<'_>) -> Answer {
         self.rings.clear();
+        self.also.clear();
         let Some(mut hub) = decode(lent.words) else {
             // Words of another length are no hub, whatever they hold; set-up can't make them one.
-            return refused(10);
+            return self.refused(Refused(vec![10]));
         };
         if let Call::SetUp(settings) = call {
-            return set_up(&Numbers::from(settings), lent);
+            return self.set_up(&Numbers::from(settings), lent);
         }
         let Lent { words, region, table, buffer } = lent;
         match self.step(&mut hub, call, region, table.len(), buffer) {
-            Err(number) => refused(number),
+            Err(refused) => self.refused(refused),
             Ok(mut answer) => {
                 words.copy_from_slice(&encode(&hub));
                 answer.count = hand_out(&self.rings, table);
@@ -112,7 +115,7 @@ impl Model {
         region: &mut [u8],
         records: usize,
         buffer: &mut [u8],
-    ) -> Result<Answer, u32> {
+    ) -> Result<Answer, Refused> {
         let done = |()| Answer::default();
         let read = |value: u32| Answer { value, ..Answer::default() };
         match *call {
@@ -143,24 +146,27 @@ impl Model {
         self.rings = rings;
         Answer::default()
     }
-}
 
-/// "A refusal returns its number, value 0 and no deliveries, and a refused question names no section and says no."
-fn refused(number: u32) -> Answer {
-    Answer { number, ..Answer::default() }
-}
+    /// "A refused set-up returns an all-zero hub."
+    fn set_up(&mut self, numbers: &Numbers, lent: Lent<'_>) -> Answer {
+        match Hub::set_up(*numbers, lent.region) {
+            Ok(hub) => {
+                lent.words.copy_from_slice(&encode(&hub));
+                Answer::default()
+            }
+            Err(refused) => {
+                lent.words.fill(0);
+                self.refused(refused)
+            }
+        }
+    }
 
-/// "A refused set-up returns an all-zero hub."
-fn set_up(numbers: &Numbers, lent: Lent<'_>) -> Answer {
-    match Hub::set_up(*numbers, lent.region) {
-        Ok(hub) => {
-            lent.words.copy_from_slice(&encode(&hub));
-            Answer::default()
-        }
-        Err(number) => {
-            lent.words.fill(0);
-            refused(number)
-        }
+    /// "A refusal returns its number, value 0 and no deliveries, and a refused question names no section and says no."
+    fn refused(&mut self, refused: Refused) -> Answer {
+        let number = refused.number();
+        self.also = refused.0;
+        self.also.remove(0);
+        Answer { number, ..Answer::default() }
     }
 }
 
