@@ -49,8 +49,10 @@ impl<S: Subject> Pair<S> {
         if let (Event::Call(call, _), Some(answer)) = (event, &models) {
             counts.add(call, answer, &self.model);
         }
-        if ours != models {
-            return Err(format!("the answer is {ours:?}, and the model's {models:?}"));
+        if let (Some(ours), Some(models)) = (&ours, &models)
+            && ours != models
+        {
+            return Err(format!("the answer is {ours}; the model's is {models}"));
         }
         self.ours.difference(&self.models).map_or(Ok(models), Err)
     }

@@ -1,5 +1,7 @@
 //! What is compared: the library and the model behind one trait, both working on plain lent memory.
 
+use std::fmt;
+
 use ivshmem::raw::{self, Counted, Reply};
 use ivshmem::{Delivery, Section};
 
@@ -16,6 +18,13 @@ pub struct Answer {
     pub kind: u32,
     pub owner: u32,
     pub store: u32,
+}
+
+impl fmt::Display for Answer {
+    fn fmt(&self, f: &mut fmt::Formatter<'_>) -> fmt::Result {
+        write!(f, "number {}, value {:#x}", self.number, self.value)?;
+        write!(f, ", {} delivered, section {} of {}, store {}", self.count, self.kind, self.owner, self.store)
+    }
 }
 
 /// The memory lent to a call. A store's bytes stand in the buffer.

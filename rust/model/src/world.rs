@@ -153,5 +153,5 @@ fn first_difference<T: PartialEq + std::fmt::Debug>(what: &str, left: &[T], righ
         return None;
     }
     let at = left.iter().zip(right).position(|(l, r)| l != r).unwrap_or(left.len().min(right.len()));
-    Some(format!("{what} {at}: {:?}, and the model has {:?}", left.get(at), right.get(at)))
+    Some(format!("{what} {at} is {:x?}; the model has {:x?}", left.get(at), right.get(at)))
 }
