@@ -1,5 +1,6 @@
 //! The linked library against the model: random histories of all calls, everything compared after every call.
 
+use std::io::Write;
 use std::time::Instant;
 
 use model::compare;
@@ -13,7 +14,8 @@ fn library_and_model_agree() {
         Ok(counts) => counts,
         Err(failure) => panic!("{failure}"),
     };
-    println!("{counts}\n{:.1} s", start.elapsed().as_secs_f64());
+    // Printed past the test's capture, so that every run shows it.
+    let _ = writeln!(std::io::stdout().lock(), "{counts}\n{:.1} s", start.elapsed().as_secs_f64());
     assert!(counts.total() >= CALLS);
 
     // Every answer that a call can give, every switch that alone stops a ring, and nothing that can't be.
