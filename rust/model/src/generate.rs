@@ -60,10 +60,12 @@ impl Generator {
             7..8 => self.plan_set_up(),
             _ => {}
         }
-        match self.planned.pop_front() {
-            Some(event) => event,
-            None => self.any_call(hub, total),
+        if let Some(event) = self.planned.pop_front() {
+            return event;
         }
+        let event = self.any_call(hub, total);
+        self.plan_what_follows(&event, hub);
+        event
     }
 
     /// True once in so many times, and every other time where all goes wrong.
@@ -119,7 +121,7 @@ impl Generator {
             0 => Call::SetUp(any_settings(&mut self.random)),
             1 => self.connect(hub, id),
             2 => Call::Disconnect { id },
-            3 => self.reset(hub, id),
+            3 => Call::Reset { id },
             4 => {
                 let (offset, width) = self.configuration_access();
                 Call::ConfigurationRead { id, offset, width }
@@ -328,21 +330,21 @@ impl Generator {
         (offset, length.min(total as u64 + 8) as usize)
     }
 
-    fn connect(&mut self, hub: &Hub, mut id: u64) -> Call {
-        // Usually one that is away, so that it comes back.
+    /// Usually one that is away, so that it comes back.
+    fn connect(&mut self, hub: &Hub, id: u64) -> Call {
         let away = |id: &u64| hub.peers[*id as usize].connected == 0;
-        if let Some(other) = (0..hub.numbers.peers.min(8)).find(away).filter(|_| self.random.chance(3, 4)) {
-            id = other;
-            self.plan_boot(id, hub.numbers.vectors.min(4));
-        }
-        Call::Connect { id }
+        let other = (0..hub.numbers.peers.min(8)).find(away).filter(|_| self.random.chance(3, 4));
+        Call::Connect { id: other.unwrap_or(id) }
     }
 
-    fn reset(&mut self, hub: &Hub, id: u64) -> Call {
-        if self.random.chance(3, 4) {
+    /// A peer that starts anew mostly boots.
+    fn plan_what_follows(&mut self, event: &Event, hub: &Hub) {
+        if let Event::Call(Call::Connect { id } | Call::Reset { id }, _) = *event
+            && id < hub.numbers.peers
+            && self.random.chance(3, 4)
+        {
             self.plan_boot(id, hub.numbers.vectors.min(4));
         }
-        Call::Reset { id }
     }
 
     /// What a driver does: every step is left out now and then, so that single switches stay off.
@@ -417,7 +419,8 @@ impl Generator {
     /// Some bits turn over, calls are made, the bits turn back.
     fn plan_damage(&mut self, hub: &Hub, total: usize) {
         let word = self.random.below(HUB_WORDS as u64) as usize;
-        let bits = 1 << self.random.below(32) | 1 << self.random.below(32);
+        let (one, another) = (1 << self.random.below(32), 1 << self.random.below(32));
+        let bits = self.random.pick(&[one, one, one | another]);
         self.planned.push_back(Event::Flip { word, bits });
         for _ in 0..4 {
             let event = self.any_call(hub, total);

@@ -101,12 +101,15 @@ impl Subject for Model {
             // Words of another length are no hub, whatever they hold; set-up can't make them one.
             return self.refused(Refused(vec![10]));
         };
-        if let Call::SetUp(settings) = call {
-            return self.set_up(&Numbers::from(settings), lent);
-        }
         let Lent { words, region, table, buffer } = lent;
         match self.step(&mut hub, call, region, table.len(), buffer) {
-            Err(refused) => self.refused(refused),
+            Err(refused) => {
+                if let Call::SetUp(_) = call {
+                    // "A refused set-up returns an all-zero hub."
+                    words.fill(0);
+                }
+                self.refused(refused)
+            }
             Ok(mut answer) => {
                 words.copy_from_slice(&encode(&hub));
                 answer.count = hand_out(&self.rings, table);
@@ -128,7 +131,10 @@ impl Model {
         let done = |()| Answer::default();
         let read = |value: u32| Answer { value, ..Answer::default() };
         match *call {
-            Call::SetUp(_) => Ok(Answer::default()),
+            Call::SetUp(settings) => Hub::set_up(Numbers::from(&settings), region).map(|fresh| {
+                *hub = fresh;
+                Answer::default()
+            }),
             Call::Connect { id } => hub.connect(id).map(done),
             Call::Disconnect { id } => hub.disconnect(region, records, id).map(|rings| self.keep(rings)),
             Call::Reset { id } => hub.reset(region, records, id).map(|rings| self.keep(rings)),
@@ -154,20 +160,6 @@ impl Model {
     fn keep(&mut self, rings: Vec<Ring>) -> Answer {
         self.rings = rings;
         Answer::default()
-    }
-
-    /// "A refused set-up returns an all-zero hub."
-    fn set_up(&mut self, numbers: &Numbers, lent: Lent<'_>) -> Answer {
-        match Hub::set_up(*numbers, lent.region) {
-            Ok(hub) => {
-                lent.words.copy_from_slice(&encode(&hub));
-                Answer::default()
-            }
-            Err(refused) => {
-                lent.words.fill(0);
-                self.refused(refused)
-            }
-        }
     }
 
     /// "A refusal returns its number, value 0 and no deliveries, and a refused question names no section and says no."
