@@ -285,7 +285,7 @@ impl Hub {
         }
     }
 
-    /// Set-up: the hub, and the region all zero.
+    /// Set-up: the hub, and the region all zero. No hub is handed in, so whatever the words held before, 10 does not apply.
     ///
     /// # Errors
     /// 1 or 2.

@@ -98,7 +98,8 @@ impl Subject for Model {
         self.rings.clear();
         self.also.clear();
         let Some(mut hub) = decode(lent.words) else {
-            // Words of another length are no hub, whatever they hold; set-up can't make them one.
+            // Words of another length are no hub, whatever they hold. The paper's "all-zero hub" of a refused set-up is read as
+            // what 1 and 2 leave: where the words can't hold a hub they stay as they were, as with every other refusal.
             return self.refused(Refused(vec![10]));
         };
         let Lent { words, region, table, buffer } = lent;

@@ -19,7 +19,7 @@ fn library_and_model_agree() {
     assert!(counts.total() >= CALLS);
 
     // Every answer that a call can give, every switch that alone stops a ring, and nothing that can't be.
-    assert_eq!(counts.gaps(200), Vec::<String>::new());
+    assert_eq!(counts.gaps(100), Vec::<String>::new());
     for accepted in counts.calls.map(|kind| kind[0]) {
         assert!(accepted >= 8_000, "{accepted} calls of a kind accepted");
     }
