@@ -1,0 +1,28 @@
+//! Finds the static library and has it linked.
+
+use std::env;
+use std::path::{Path, PathBuf};
+
+fn main() {
+    println!("cargo::rerun-if-env-changed=IVSHMEM_LIB_DIR");
+    println!("cargo::rerun-if-changed=build.rs");
+    let folder = library_folder();
+    let archive = folder.join("libivshmem.a");
+    println!("cargo::rerun-if-changed={}", archive.display());
+    if archive.is_file() {
+        println!("cargo::rustc-link-search=native={}", folder.display());
+        println!("cargo::rustc-link-lib=static=ivshmem");
+    } else {
+        println!(
+            "cargo::error=no {}: make it with `rt staticlib ivshmem` in the repository's root, or name its folder in IVSHMEM_LIB_DIR",
+            archive.display()
+        );
+    }
+}
+
+fn library_folder() -> PathBuf {
+    match env::var_os("IVSHMEM_LIB_DIR") {
+        Some(folder) => PathBuf::from(folder),
+        None => Path::new(env!("CARGO_MANIFEST_DIR")).join("../../target/staticlib"),
+    }
+}

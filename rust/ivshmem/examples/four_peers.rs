@@ -1,0 +1,82 @@
+//! Four guests on one hub: a doorbell, a state change, a one-shot interrupt and a guest that leaves.
+
+use ivshmem::{Delivery, Hub, MAX_PEERS, PeerId, Refusal, Settings, Vector, msix, register};
+
+struct Host {
+    hub: Hub,
+    region: Vec<u8>,
+    table: [Delivery; MAX_PEERS],
+}
+
+impl Host {
+    fn new() -> Result<Host, Refusal> {
+        let settings = Settings {
+            peers: 4,
+            vectors: 2,
+            state_table: 4096,
+            read_write: 4096,
+            output: 4096,
+            base: 0x1_0000_0000,
+            protocol: 1,
+            ..Settings::default()
+        };
+        let mut region = vec![0; settings.total().ok_or(Refusal::BadSetting)?];
+        let hub = Hub::set_up(&settings, &mut region)?;
+        Ok(Host { hub, region, table: [Delivery::default(); MAX_PEERS] })
+    }
+
+    /// What a guest's driver does when it finds the device.
+    fn boot(&mut self, peer: PeerId) -> Result<(), Refusal> {
+        self.hub.connect(peer)?;
+        self.hub.configuration_write(peer, 0x04, 2, 0x0006)?;
+        self.hub.configuration_write(peer, 0x62, 2, 0x8000)?;
+        for vector in 0..2 {
+            let entry = 16 * vector;
+            self.hub.msix_write(peer, entry + msix::ADDRESS_LOW, 4, 0xfee0_0000)?;
+            self.hub.msix_write(peer, entry + msix::DATA, 4, 0x40 + peer.0)?;
+            self.hub.msix_write(peer, entry + msix::CONTROL, 4, 0)?;
+        }
+        self.write("switches interrupts on", peer, register::INTERRUPT_CONTROL, 1)
+    }
+
+    fn write(&mut self, what: &str, peer: PeerId, offset: u64, value: u32) -> Result<(), Refusal> {
+        let delivered = self.hub.register_write(&mut self.region, &mut self.table, peer, offset, 4, value)?;
+        report(peer, what, delivered);
+        Ok(())
+    }
+
+    fn leave(&mut self, peer: PeerId) -> Result<(), Refusal> {
+        let delivered = self.hub.disconnect(&mut self.region, &mut self.table, peer)?;
+        report(peer, "leaves", delivered);
+        Ok(())
+    }
+}
+
+fn report(peer: PeerId, what: &str, delivered: &[Delivery]) {
+    println!("peer {peer} {what}");
+    for Delivery { target, vector, address, payload } in delivered {
+        println!("    interrupt for peer {target}: vector {vector}, message {payload:#x} to {address:#x}");
+    }
+}
+
+fn main() -> Result<(), Refusal> {
+    let mut host = Host::new()?;
+    for id in 0..4 {
+        host.boot(PeerId(id))?;
+    }
+    let ring = register::doorbell(PeerId(3), Vector(1));
+    host.write("rings vector 1 of peer 3", PeerId(0), register::DOORBELL, ring)?;
+    host.write("sets its state to 5", PeerId(1), register::STATE, 5)?;
+
+    // Peer 3 asks for one-shot interrupts: the next delivery switches its Interrupt Control off.
+    host.hub.configuration_write(PeerId(3), 0x43, 1, 1)?;
+    host.write("rings vector 1 of peer 3, now one-shot", PeerId(0), register::DOORBELL, ring)?;
+    host.write("rings it again, before peer 3 is ready", PeerId(0), register::DOORBELL, ring)?;
+
+    host.leave(PeerId(1))?;
+    match host.hub.store(&mut host.region, PeerId(0), 3 * 4096, b"mine?") {
+        Ok(()) => println!("peer 0 stored to the output section of peer 1"),
+        Err(refusal) => println!("peer 0 stores to the output section of peer 1: refused, {refusal}"),
+    }
+    Ok(())
+}

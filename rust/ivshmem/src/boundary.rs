@@ -1,0 +1,222 @@
+//! The C boundary: the types of `ivshmem.h`, its functions, and a safe form of each over slices.
+//!
+//! A slice's pointer is never null, is aligned and points to as many elements as its length says, also when it is empty; and
+//! Rust's borrows keep the parts lent to one call from overlapping. That is all the library asks for, so every function here
+//! is safe for hubs, regions, tables and buffers of any length and content.
+
+use core::mem::{align_of, offset_of, size_of};
+
+use crate::{HUB_WORDS, MAX_PEERS, MAX_VECTORS, PeerId, Settings, Vector};
+
+/// An answer: 0 or the refusal's number, and the value read (0 where nothing is read, and for a refusal).
+#[repr(C)]
+#[derive(Clone, Copy, Debug, Default, PartialEq, Eq, Hash)]
+pub struct Reply {
+    /// 0, or why the call was refused.
+    pub number: u32,
+    /// The value read.
+    pub value: u32,
+}
+
+/// An interrupt for the host to inject: MSI-X vector `vector` of peer `target`, with its message address and data.
+#[repr(C)]
+#[derive(Clone, Copy, Debug, Default, PartialEq, Eq, Hash)]
+pub struct Delivery {
+    /// The peer that is interrupted.
+    pub target: PeerId,
+    /// The vector that was rung.
+    pub vector: Vector,
+    /// The message address that the guest put into the vector's MSI-X entry.
+    pub address: u64,
+    /// The message data of the same entry.
+    pub payload: u32,
+}
+
+/// An answer, and the number of records written to the delivery table. No guest may learn the count.
+#[repr(C)]
+#[derive(Clone, Copy, Debug, Default, PartialEq, Eq, Hash)]
+pub struct Counted {
+    /// The answer.
+    pub reply: Reply,
+    /// How many records were written, from the front of the table.
+    pub count: usize,
+}
+
+/// The answer to the section question.
+#[repr(C)]
+#[derive(Clone, Copy, Debug, Default, PartialEq, Eq, Hash)]
+pub struct SectionReply {
+    /// The answer.
+    pub reply: Reply,
+    /// 0 no section, 1 State Table, 2 read/write, 3 output.
+    pub kind: u32,
+    /// The owner of an output section, otherwise 0.
+    pub owner: u32,
+    /// 1 if the asking peer may store there, otherwise 0.
+    pub store: u32,
+}
+
+const _: () = {
+    assert!(HUB_WORDS == 10 + 8 * MAX_PEERS + 4 * MAX_PEERS * MAX_VECTORS && HUB_WORDS == 202);
+    assert!(size_of::<usize>() == 8, "the library is built for 64-bit machines");
+    assert!(size_of::<PeerId>() == 4 && size_of::<Vector>() == 4);
+
+    assert!(size_of::<Reply>() == 8 && align_of::<Reply>() == 4);
+    assert!(offset_of!(Reply, number) == 0 && offset_of!(Reply, value) == 4);
+
+    assert!(size_of::<Delivery>() == 24 && align_of::<Delivery>() == 8);
+    assert!(offset_of!(Delivery, target) == 0 && offset_of!(Delivery, vector) == 4);
+    assert!(offset_of!(Delivery, address) == 8 && offset_of!(Delivery, payload) == 16);
+
+    assert!(size_of::<Counted>() == 16 && align_of::<Counted>() == 8);
+    assert!(offset_of!(Counted, reply) == 0 && offset_of!(Counted, count) == 8);
+
+    assert!(size_of::<SectionReply>() == 20 && align_of::<SectionReply>() == 4);
+    assert!(offset_of!(SectionReply, reply) == 0 && offset_of!(SectionReply, kind) == 8);
+    assert!(offset_of!(SectionReply, owner) == 12 && offset_of!(SectionReply, store) == 16);
+};
+
+#[rustfmt::skip]
+unsafe extern "C" {
+    fn ivshmem_set_up(hub: *mut u32, hub_words: usize, region: *mut u8, region_bytes: usize, peers: u64, vectors: u64,
+                      table: u64, common: u64, output: u64, base: u64, protocol: u16, vendor: u16, subsystem: u16) -> Reply;
+    fn ivshmem_connect(hub: *mut u32, hub_words: usize, id: u64) -> Reply;
+    fn ivshmem_disconnect(hub: *mut u32, hub_words: usize, region: *mut u8, region_bytes: usize,
+                          deliveries: *mut Delivery, records: usize, id: u64) -> Counted;
+    fn ivshmem_reset(hub: *mut u32, hub_words: usize, region: *mut u8, region_bytes: usize,
+                     deliveries: *mut Delivery, records: usize, id: u64) -> Counted;
+    fn ivshmem_configuration_read(hub: *const u32, hub_words: usize, id: u64, offset: u64, width: u64) -> Reply;
+    fn ivshmem_configuration_write(hub: *mut u32, hub_words: usize, id: u64, offset: u64, width: u64, value: u32) -> Reply;
+    fn ivshmem_register_read(hub: *const u32, hub_words: usize, id: u64, offset: u64, width: u64) -> Reply;
+    fn ivshmem_register_write(hub: *mut u32, hub_words: usize, region: *mut u8, region_bytes: usize,
+                              deliveries: *mut Delivery, records: usize, id: u64, offset: u64, width: u64,
+                              value: u32) -> Counted;
+    fn ivshmem_msix_read(hub: *const u32, hub_words: usize, id: u64, offset: u64, width: u64) -> Reply;
+    fn ivshmem_msix_write(hub: *mut u32, hub_words: usize, id: u64, offset: u64, width: u64, value: u32) -> Reply;
+    fn ivshmem_section_question(hub: *const u32, hub_words: usize, id: u64, offset: u64, length: u64) -> SectionReply;
+    fn ivshmem_load(hub: *const u32, hub_words: usize, region: *const u8, region_bytes: usize, id: u64, offset: u64,
+                    buffer: *mut u8, length: usize) -> Reply;
+    fn ivshmem_store(hub: *const u32, hub_words: usize, region: *mut u8, region_bytes: usize, id: u64, offset: u64,
+                     bytes: *const u8, length: usize) -> Reply;
+}
+
+/// Makes `hub` a hub with nobody connected and the whole region zero.
+///
+/// Refused with 10 where `hub` has not [`HUB_WORDS`] words; with 1 or 2, which leave the words all zero.
+pub fn set_up(hub: &mut [u32], region: &mut [u8], settings: &Settings) -> Reply {
+    // SAFETY: both slices are lent for the whole call, exclusively.
+    unsafe {
+        ivshmem_set_up(
+            hub.as_mut_ptr(),
+            hub.len(),
+            region.as_mut_ptr(),
+            region.len(),
+            settings.peers,
+            settings.vectors,
+            settings.state_table,
+            settings.read_write,
+            settings.output,
+            settings.base,
+            settings.protocol,
+            settings.subsystem_vendor,
+            settings.subsystem,
+        )
+    }
+}
+
+/// The peer joins, with all registers at their reset values; nobody is rung. Refused with 10, 3 or 5.
+pub fn connect(hub: &mut [u32], id: u64) -> Reply {
+    // SAFETY: the slice is lent for the whole call, exclusively.
+    unsafe { ivshmem_connect(hub.as_mut_ptr(), hub.len(), id) }
+}
+
+/// The peer leaves; vector 0 is rung at every other peer. Refused with 10, 2, 11, 3 or 4.
+pub fn disconnect(hub: &mut [u32], region: &mut [u8], table: &mut [Delivery], id: u64) -> Counted {
+    let (words, bytes, records) = (hub.len(), region.len(), table.len());
+    // SAFETY: the three slices are lent for the whole call, exclusively; any bits are a `Delivery`.
+    unsafe { ivshmem_disconnect(hub.as_mut_ptr(), words, region.as_mut_ptr(), bytes, table.as_mut_ptr(), records, id) }
+}
+
+/// The peer's registers take their reset values; vector 0 is rung at every other peer. Refused with 10, 2, 11, 3 or 4.
+pub fn reset(hub: &mut [u32], region: &mut [u8], table: &mut [Delivery], id: u64) -> Counted {
+    let (words, bytes, records) = (hub.len(), region.len(), table.len());
+    // SAFETY: as for `disconnect`.
+    unsafe { ivshmem_reset(hub.as_mut_ptr(), words, region.as_mut_ptr(), bytes, table.as_mut_ptr(), records, id) }
+}
+
+/// Reads configuration space. Refused with 10, 3, 4, 6, 7 or 8.
+pub fn configuration_read(hub: &[u32], id: u64, offset: u64, width: u64) -> Reply {
+    // SAFETY: the slice is lent for the whole call and only read.
+    unsafe { ivshmem_configuration_read(hub.as_ptr(), hub.len(), id, offset, width) }
+}
+
+/// Writes configuration space. Refused with 10, 3, 4, 6, 7 or 8.
+pub fn configuration_write(hub: &mut [u32], id: u64, offset: u64, width: u64, value: u32) -> Reply {
+    // SAFETY: the slice is lent for the whole call, exclusively.
+    unsafe { ivshmem_configuration_write(hub.as_mut_ptr(), hub.len(), id, offset, width, value) }
+}
+
+/// Reads the register region. Refused with 10, 3, 4, 6, 7 or 8.
+pub fn register_read(hub: &[u32], id: u64, offset: u64, width: u64) -> Reply {
+    // SAFETY: the slice is lent for the whole call and only read.
+    unsafe { ivshmem_register_read(hub.as_ptr(), hub.len(), id, offset, width) }
+}
+
+/// Writes the register region; a store to Doorbell or State rings. Refused with 10, 2, 11, 3, 4, 6, 7 or 8.
+pub fn register_write(
+    hub: &mut [u32],
+    region: &mut [u8],
+    table: &mut [Delivery],
+    id: u64,
+    offset: u64,
+    width: u64,
+    value: u32,
+) -> Counted {
+    // SAFETY: as for `disconnect`.
+    unsafe {
+        ivshmem_register_write(
+            hub.as_mut_ptr(),
+            hub.len(),
+            region.as_mut_ptr(),
+            region.len(),
+            table.as_mut_ptr(),
+            table.len(),
+            id,
+            offset,
+            width,
+            value,
+        )
+    }
+}
+
+/// Reads the MSI-X region. Refused with 10, 3, 4, 6, 7 or 8.
+pub fn msix_read(hub: &[u32], id: u64, offset: u64, width: u64) -> Reply {
+    // SAFETY: the slice is lent for the whole call and only read.
+    unsafe { ivshmem_msix_read(hub.as_ptr(), hub.len(), id, offset, width) }
+}
+
+/// Writes the MSI-X region. Refused with 10, 3, 4, 6, 7 or 8.
+pub fn msix_write(hub: &mut [u32], id: u64, offset: u64, width: u64, value: u32) -> Reply {
+    // SAFETY: the slice is lent for the whole call, exclusively.
+    unsafe { ivshmem_msix_write(hub.as_mut_ptr(), hub.len(), id, offset, width, value) }
+}
+
+/// Asks which section a shared range lies in and whether the peer may store to it. Refused with 10, 3, 4, 6 or 8.
+pub fn section(hub: &[u32], id: u64, offset: u64, length: u64) -> SectionReply {
+    // SAFETY: the slice is lent for the whole call and only read.
+    unsafe { ivshmem_section_question(hub.as_ptr(), hub.len(), id, offset, length) }
+}
+
+/// Fills `buffer` with shared bytes. Refused with 10, 2, 3, 4, 6 or 8.
+pub fn load(hub: &[u32], region: &[u8], id: u64, offset: u64, buffer: &mut [u8]) -> Reply {
+    let (words, bytes, length) = (hub.len(), region.len(), buffer.len());
+    // SAFETY: hub and region are lent for the whole call and only read; the buffer is lent exclusively.
+    unsafe { ivshmem_load(hub.as_ptr(), words, region.as_ptr(), bytes, id, offset, buffer.as_mut_ptr(), length) }
+}
+
+/// Stores bytes to the read/write section or to the peer's own output section. Refused with 10, 2, 3, 4, 6, 8 or 9.
+pub fn store(hub: &[u32], region: &mut [u8], id: u64, offset: u64, bytes: &[u8]) -> Reply {
+    let (words, length) = (hub.len(), bytes.len());
+    // SAFETY: hub and bytes are lent for the whole call and only read; the region is lent exclusively.
+    unsafe { ivshmem_store(hub.as_ptr(), words, region.as_mut_ptr(), region.len(), id, offset, bytes.as_ptr(), length) }
+}

@@ -1,0 +1,195 @@
+//! The hub with its words, one method for each call.
+
+use core::fmt;
+
+use crate::raw::{self, Counted, Delivery, Reply};
+use crate::{HUB_WORDS, PeerId, Placement, Refusal, Section, Settings};
+
+/// A hub: its words, and nothing else.
+///
+/// The region and the delivery table are lent to the calls that need them. A table with [`MAX_PEERS`](crate::MAX_PEERS)
+/// records is long enough for every hub; the calls answer the part of it that they filled, in ring order.
+///
+/// Every method answers every argument: with a value, or with the [`Refusal`] that applies.
+#[derive(Clone, PartialEq, Eq, Hash)]
+pub struct Hub {
+    words: [u32; HUB_WORDS],
+}
+
+impl Hub {
+    /// Sets up a hub with nobody connected and makes the whole region zero.
+    ///
+    /// # Errors
+    /// [`Refusal::BadSetting`] or [`Refusal::BadRegion`]; the region is then unchanged.
+    pub fn set_up(settings: &Settings, region: &mut [u8]) -> Result<Hub, Refusal> {
+        let mut words = [0; HUB_WORDS];
+        done(raw::set_up(&mut words, region, settings))?;
+        Ok(Hub { words })
+    }
+
+    /// Takes up a hub from words saved earlier.
+    ///
+    /// Any words may be given: if they are not a sound hub, every call is refused with [`Refusal::UnsoundHub`].
+    #[must_use]
+    pub const fn from_words(words: [u32; HUB_WORDS]) -> Hub {
+        Hub { words }
+    }
+
+    /// The hub's words, to be saved. What they mean is the library's own affair.
+    #[must_use]
+    pub const fn words(&self) -> &[u32; HUB_WORDS] {
+        &self.words
+    }
+
+    /// The peer joins with all registers at their reset values; nobody is rung.
+    ///
+    /// # Errors
+    /// [`Refusal::UnsoundHub`], [`Refusal::NoSuchPeer`] or [`Refusal::Connected`].
+    pub fn connect(&mut self, peer: PeerId) -> Result<(), Refusal> {
+        done(raw::connect(&mut self.words, id(peer)))
+    }
+
+    /// The peer leaves: its registers take their reset values, its State Table entry is 0, then vector 0 is rung at every
+    /// other peer.
+    ///
+    /// # Errors
+    /// [`Refusal::UnsoundHub`], [`Refusal::BadRegion`], [`Refusal::ShortTable`], [`Refusal::NoSuchPeer`] or
+    /// [`Refusal::NotConnected`].
+    pub fn disconnect<'t>(
+        &mut self,
+        region: &mut [u8],
+        table: &'t mut [Delivery],
+        peer: PeerId,
+    ) -> Result<&'t [Delivery], Refusal> {
+        let counted = raw::disconnect(&mut self.words, region, table, id(peer));
+        filled(counted, table)
+    }
+
+    /// Resets a peer that stays connected: its registers take their reset values, its State Table entry is 0, then vector 0
+    /// is rung at every other peer.
+    ///
+    /// # Errors
+    /// As for [`disconnect`](Hub::disconnect).
+    pub fn reset<'t>(
+        &mut self,
+        region: &mut [u8],
+        table: &'t mut [Delivery],
+        peer: PeerId,
+    ) -> Result<&'t [Delivery], Refusal> {
+        let counted = raw::reset(&mut self.words, region, table, id(peer));
+        filled(counted, table)
+    }
+
+    /// Reads 1, 2 or 4 bytes of the peer's configuration space.
+    ///
+    /// # Errors
+    /// [`Refusal::UnsoundHub`], [`Refusal::NoSuchPeer`], [`Refusal::NotConnected`], [`Refusal::BadWidth`],
+    /// [`Refusal::Misaligned`] or [`Refusal::OutOfRange`].
+    pub fn configuration_read(&self, peer: PeerId, offset: u64, width: u64) -> Result<u32, Refusal> {
+        raw::configuration_read(&self.words, id(peer), offset, width).result()
+    }
+
+    /// Writes the low 1, 2 or 4 bytes of `value` to the peer's configuration space; bits that can't be written stay.
+    ///
+    /// # Errors
+    /// As for [`configuration_read`](Hub::configuration_read).
+    pub fn configuration_write(&mut self, peer: PeerId, offset: u64, width: u64, value: u32) -> Result<(), Refusal> {
+        done(raw::configuration_write(&mut self.words, id(peer), offset, width, value))
+    }
+
+    /// Reads 4 bytes of the peer's register region (BAR 0); with Command bit 1 off all ones.
+    ///
+    /// # Errors
+    /// As for [`configuration_read`](Hub::configuration_read).
+    pub fn register_read(&self, peer: PeerId, offset: u64, width: u64) -> Result<u32, Refusal> {
+        raw::register_read(&self.words, id(peer), offset, width).result()
+    }
+
+    /// Writes 4 bytes of the peer's register region (BAR 0); with Command bit 1 off it does nothing. A store to Doorbell may
+    /// deliver one interrupt, a store to State one to each other peer.
+    ///
+    /// # Errors
+    /// As for [`configuration_read`](Hub::configuration_read), and [`Refusal::BadRegion`] or [`Refusal::ShortTable`].
+    pub fn register_write<'t>(
+        &mut self,
+        region: &mut [u8],
+        table: &'t mut [Delivery],
+        peer: PeerId,
+        offset: u64,
+        width: u64,
+        value: u32,
+    ) -> Result<&'t [Delivery], Refusal> {
+        let counted = raw::register_write(&mut self.words, region, table, id(peer), offset, width, value);
+        filled(counted, table)
+    }
+
+    /// Reads 4 bytes of the peer's MSI-X region (BAR 1); with Command bit 1 off all ones.
+    ///
+    /// # Errors
+    /// As for [`configuration_read`](Hub::configuration_read).
+    pub fn msix_read(&self, peer: PeerId, offset: u64, width: u64) -> Result<u32, Refusal> {
+        raw::msix_read(&self.words, id(peer), offset, width).result()
+    }
+
+    /// Writes 4 bytes of the peer's MSI-X region (BAR 1); with Command bit 1 off it does nothing.
+    ///
+    /// # Errors
+    /// As for [`configuration_read`](Hub::configuration_read).
+    pub fn msix_write(&mut self, peer: PeerId, offset: u64, width: u64, value: u32) -> Result<(), Refusal> {
+        done(raw::msix_write(&mut self.words, id(peer), offset, width, value))
+    }
+
+    /// Which section a shared range lies in, and whether the peer may store to it.
+    ///
+    /// # Errors
+    /// [`Refusal::UnsoundHub`], [`Refusal::NoSuchPeer`], [`Refusal::NotConnected`], [`Refusal::BadWidth`] for a length of 0,
+    /// or [`Refusal::OutOfRange`].
+    pub fn section(&self, peer: PeerId, offset: u64, length: u64) -> Result<Placement, Refusal> {
+        let answer = raw::section(&self.words, id(peer), offset, length);
+        answer.reply.result()?;
+        // An accepted question always names a section, so the last arm is the output kind alone.
+        let section = match answer.kind {
+            1 => Section::StateTable,
+            2 => Section::ReadWrite,
+            _ => Section::Output(PeerId(answer.owner)),
+        };
+        Ok(Placement { section, may_store: answer.store == 1 })
+    }
+
+    /// Fills the buffer with the shared bytes at `offset`.
+    ///
+    /// # Errors
+    /// As for [`section`](Hub::section), and [`Refusal::BadRegion`]; the buffer is then unchanged.
+    pub fn load(&self, region: &[u8], peer: PeerId, offset: u64, buffer: &mut [u8]) -> Result<(), Refusal> {
+        done(raw::load(&self.words, region, id(peer), offset, buffer))
+    }
+
+    /// Stores the bytes at `offset` of the region.
+    ///
+    /// # Errors
+    /// As for [`load`](Hub::load), and [`Refusal::ReadOnly`]; the region is then unchanged.
+    pub fn store(&self, region: &mut [u8], peer: PeerId, offset: u64, bytes: &[u8]) -> Result<(), Refusal> {
+        done(raw::store(&self.words, region, id(peer), offset, bytes))
+    }
+}
+
+// 202 numbers tell a reader nothing.
+impl fmt::Debug for Hub {
+    fn fmt(&self, f: &mut fmt::Formatter<'_>) -> fmt::Result {
+        f.debug_struct("Hub").finish_non_exhaustive()
+    }
+}
+
+fn id(peer: PeerId) -> u64 {
+    u64::from(peer.0)
+}
+
+fn done(reply: Reply) -> Result<(), Refusal> {
+    reply.result().map(|_| ())
+}
+
+// The library never counts more records than it was lent; `get` only spares a panic that can't happen.
+fn filled(counted: Counted, table: &[Delivery]) -> Result<&[Delivery], Refusal> {
+    counted.reply.result()?;
+    Ok(table.get(..counted.count).unwrap_or(table))
+}

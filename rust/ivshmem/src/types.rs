@@ -1,0 +1,79 @@
+//! Numbers with a meaning of their own, the set-up numbers and the sections.
+
+use core::fmt;
+
+/// A peer's id, from 0.
+#[repr(transparent)]
+#[derive(Clone, Copy, Debug, Default, PartialEq, Eq, PartialOrd, Ord, Hash)]
+pub struct PeerId(pub u32);
+
+/// An MSI-X vector's number, from 0.
+#[repr(transparent)]
+#[derive(Clone, Copy, Debug, Default, PartialEq, Eq, PartialOrd, Ord, Hash)]
+pub struct Vector(pub u32);
+
+impl fmt::Display for PeerId {
+    fn fmt(&self, f: &mut fmt::Formatter<'_>) -> fmt::Result {
+        self.0.fmt(f)
+    }
+}
+
+impl fmt::Display for Vector {
+    fn fmt(&self, f: &mut fmt::Formatter<'_>) -> fmt::Result {
+        self.0.fmt(f)
+    }
+}
+
+/// The numbers that a hub is set up with. Sizes are in bytes.
+#[derive(Clone, Copy, Debug, Default, PartialEq, Eq, Hash)]
+pub struct Settings {
+    /// How many peers there are: 2 to [`MAX_PEERS`](crate::MAX_PEERS).
+    pub peers: u64,
+    /// How many vectors each peer has: 1 to [`MAX_VECTORS`](crate::MAX_VECTORS).
+    pub vectors: u64,
+    /// Size of the State Table: a nonzero multiple of 4096, at least 4 for each peer.
+    pub state_table: u64,
+    /// Size of the read/write section: a multiple of 4096, or 0.
+    pub read_write: u64,
+    /// Size of each peer's output section: a multiple of 4096, or 0.
+    pub output: u64,
+    /// The region's guest physical address: a multiple of 4096, with address + total at most 2^64.
+    pub base: u64,
+    /// The protocol that the peers speak.
+    pub protocol: u16,
+    /// PCI subsystem vendor number.
+    pub subsystem_vendor: u16,
+    /// PCI subsystem number.
+    pub subsystem: u16,
+}
+
+impl Settings {
+    /// The length of the region that a hub with these settings is lent: state table, read/write section and all output
+    /// sections. At most 2^30 where the settings are accepted; nothing where the sum does not fit.
+    #[must_use]
+    pub fn total(&self) -> Option<usize> {
+        let outputs = self.peers.checked_mul(self.output)?;
+        let total = self.state_table.checked_add(self.read_write)?.checked_add(outputs)?;
+        usize::try_from(total).ok()
+    }
+}
+
+/// A section of the shared region.
+#[derive(Clone, Copy, Debug, PartialEq, Eq, Hash)]
+pub enum Section {
+    /// The State Table: no peer stores to it.
+    StateTable,
+    /// The read/write section: every peer stores to it.
+    ReadWrite,
+    /// The output section of one peer, which alone stores to it.
+    Output(PeerId),
+}
+
+/// The section that a range lies in, and whether the asking peer may store to it.
+#[derive(Clone, Copy, Debug, PartialEq, Eq, Hash)]
+pub struct Placement {
+    /// The section that holds the whole range.
+    pub section: Section,
+    /// Whether the asking peer may store there.
+    pub may_store: bool,
+}

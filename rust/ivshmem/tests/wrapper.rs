@@ -1,0 +1,239 @@
+//! Every method of the wrapper, and every refusal through it.
+
+use std::error::Error;
+
+use ivshmem::raw::{self, Reply};
+use ivshmem::{
+    CONFIGURATION_BYTES, Delivery, HUB_WORDS, Hub, MAX_PEERS, MAX_VECTORS, MSIX_BYTES, PeerId, Placement,
+    REGISTER_BYTES, Refusal, Section, Settings, Vector, msix, register,
+};
+
+const ZERO: PeerId = PeerId(0);
+const ONE: PeerId = PeerId(1);
+const SETTINGS: Settings = Settings {
+    peers: 3,
+    vectors: 2,
+    state_table: 4096,
+    read_write: 8192,
+    output: 4096,
+    base: 0x8_0000_0000,
+    protocol: 0x1234,
+    subsystem_vendor: 0x110a,
+    subsystem: 0x4106,
+};
+
+/// A hub with peers 0 and 1 connected, its region and a table.
+struct Host {
+    hub: Hub,
+    region: Vec<u8>,
+    table: [Delivery; MAX_PEERS],
+}
+
+impl Host {
+    fn new() -> Host {
+        let mut region = vec![0xee; SETTINGS.total().unwrap()];
+        let mut hub = Hub::set_up(&SETTINGS, &mut region).unwrap();
+        assert!(region.iter().all(|&byte| byte == 0));
+        hub.connect(ZERO).unwrap();
+        hub.connect(ONE).unwrap();
+        Host { hub, region, table: [Delivery::default(); MAX_PEERS] }
+    }
+
+    fn write(&mut self, peer: PeerId, offset: u64, value: u32) -> Result<&[Delivery], Refusal> {
+        self.hub.register_write(&mut self.region, &mut self.table, peer, offset, 4, value)
+    }
+
+    /// All switches on, and this data in entry 0.
+    fn switch_on(&mut self, peer: PeerId, data: u32) {
+        self.hub.configuration_write(peer, 0x04, 2, 0x0006).unwrap();
+        self.hub.configuration_write(peer, 0x62, 2, 0x8000).unwrap();
+        for (offset, value) in
+            [(msix::ADDRESS_LOW, 0xfee0_0000), (msix::ADDRESS_HIGH, 1), (msix::DATA, data), (msix::CONTROL, 0)]
+        {
+            self.hub.msix_write(peer, offset, 4, value).unwrap();
+        }
+        assert_eq!(self.write(peer, register::INTERRUPT_CONTROL, 1), Ok(&[][..]));
+    }
+}
+
+fn delivery(target: PeerId, payload: u32) -> Delivery {
+    Delivery { target, vector: Vector(0), address: 0x1_fee0_0000, payload }
+}
+
+#[test]
+fn numbers_of_refusals() {
+    assert_eq!(Refusal::ALL.map(Refusal::number), [1, 2, 3, 4, 5, 6, 7, 8, 9, 10, 11]);
+    for refusal in Refusal::ALL {
+        assert_eq!(Refusal::from_number(refusal.number()), Some(refusal));
+        assert_eq!(Reply { number: refusal.number(), value: 0 }.result(), Err(refusal));
+        let error: Box<dyn Error> = refusal.into();
+        assert_eq!(error.to_string(), refusal.reason());
+    }
+    assert_eq!(Refusal::from_number(0), None);
+    assert_eq!(Refusal::from_number(12), None);
+    assert_eq!(Reply { number: 0, value: 7 }.result(), Ok(7));
+    assert_eq!(Reply { number: 12, value: 7 }.result(), Err(Refusal::UnsoundHub));
+
+    let mut reasons = Refusal::ALL.map(Refusal::reason).to_vec();
+    reasons.sort_unstable();
+    reasons.dedup();
+    assert_eq!(reasons.len(), Refusal::ALL.len());
+}
+
+#[test]
+fn totals() {
+    assert_eq!(SETTINGS.total(), Some(4096 + 8192 + 3 * 4096));
+    assert_eq!(Settings { output: 1 << 63, ..SETTINGS }.total(), None);
+    assert_eq!(Settings { read_write: u64::MAX, ..SETTINGS }.total(), None);
+}
+
+#[test]
+fn set_up_refused() {
+    let mut region = vec![0xee; SETTINGS.total().unwrap()];
+    let few = Settings { peers: 1, ..SETTINGS };
+    assert_eq!(Hub::set_up(&few, &mut region).unwrap_err(), Refusal::BadSetting);
+    assert_eq!(Hub::set_up(&SETTINGS, &mut region[1..]).unwrap_err(), Refusal::BadRegion);
+    assert!(region.iter().all(|&byte| byte == 0xee));
+
+    let most = Settings { peers: MAX_PEERS as u64, vectors: MAX_VECTORS as u64, ..SETTINGS };
+    assert!(Hub::set_up(&most, &mut vec![0; most.total().unwrap()]).is_ok());
+}
+
+#[test]
+fn configuration() {
+    let mut host = Host::new();
+    assert_eq!(host.hub.configuration_read(ONE, 0x00, 4), Ok(0x4106_110a));
+    assert_eq!(host.hub.configuration_read(ONE, 0x09, 1), Ok(0x34));
+    assert_eq!(host.hub.configuration_read(ONE, 0x5c, 4), Ok(8));
+    assert_eq!(host.hub.configuration_write(ONE, 0x10, 4, 0xffff_ffff), Ok(()));
+    assert_eq!(host.hub.configuration_read(ONE, 0x10, 4), Ok(0xffff_f000));
+    assert_eq!(host.hub.configuration_read(ZERO, 0x10, 4), Ok(0));
+    assert_eq!(host.hub.configuration_read(ONE, 0, 3), Err(Refusal::BadWidth));
+    assert_eq!(host.hub.configuration_read(ONE, 1, 2), Err(Refusal::Misaligned));
+    assert_eq!(host.hub.configuration_read(ONE, CONFIGURATION_BYTES, 4), Err(Refusal::OutOfRange));
+    assert_eq!(host.hub.configuration_write(PeerId(2), 0x10, 4, 0), Err(Refusal::NotConnected));
+    assert_eq!(host.hub.configuration_write(PeerId(3), 0x10, 4, 0), Err(Refusal::NoSuchPeer));
+}
+
+#[test]
+fn registers_and_entries() {
+    let mut host = Host::new();
+    assert_eq!(host.hub.register_read(ONE, register::ID, 4), Ok(0xffff_ffff));
+    assert_eq!(host.hub.msix_read(ONE, msix::CONTROL, 4), Ok(0xffff_ffff));
+    host.switch_on(ONE, 0x41);
+    assert_eq!(host.hub.register_read(ONE, register::ID, 4), Ok(1));
+    assert_eq!(host.hub.register_read(ONE, register::MAXIMUM_PEERS, 4), Ok(3));
+    assert_eq!(host.hub.register_read(ONE, register::DOORBELL, 4), Ok(0));
+    assert_eq!(host.write(ONE, register::STATE, 0x0102_0304), Ok(&[][..]));
+    assert_eq!(host.hub.register_read(ONE, register::STATE, 4), Ok(0x0102_0304));
+    assert_eq!(host.region[4..8], [4, 3, 2, 1]);
+    assert_eq!(host.hub.msix_read(ONE, msix::DATA, 4), Ok(0x41));
+    assert_eq!(host.hub.msix_read(ONE, 16 + msix::CONTROL, 4), Ok(1));
+    assert_eq!(host.hub.register_read(ONE, REGISTER_BYTES, 4), Err(Refusal::OutOfRange));
+    assert_eq!(host.hub.msix_write(ONE, MSIX_BYTES, 4, 0), Err(Refusal::OutOfRange));
+    assert_eq!(host.hub.msix_read(ONE, 0, 2), Err(Refusal::BadWidth));
+}
+
+#[test]
+fn deliveries() {
+    let mut host = Host::new();
+    host.switch_on(ZERO, 0x40);
+    host.switch_on(ONE, 0x41);
+    let ring = register::doorbell(ONE, Vector(0));
+    assert_eq!(ring, 0x0001_0000);
+    assert_eq!(host.write(ZERO, register::DOORBELL, ring), Ok(&[delivery(ONE, 0x41)][..]));
+    assert_eq!(host.write(ZERO, register::STATE, 9), Ok(&[delivery(ONE, 0x41)][..]));
+
+    let table = &mut host.table[..];
+    assert_eq!(host.hub.reset(&mut host.region, table, ZERO), Ok(&[delivery(ONE, 0x41)][..]));
+    assert_eq!(host.hub.register_read(ZERO, register::STATE, 4), Ok(0xffff_ffff));
+    assert_eq!(host.region[..4], [0; 4]);
+    host.switch_on(ZERO, 0x40);
+    let table = &mut host.table[..];
+    assert_eq!(host.hub.disconnect(&mut host.region, table, ONE), Ok(&[delivery(ZERO, 0x40)][..]));
+    assert_eq!(host.hub.connect(ZERO), Err(Refusal::Connected));
+    assert_eq!(host.hub.connect(ONE), Ok(()));
+}
+
+#[test]
+fn lent_memory_refused() {
+    let mut host = Host::new();
+    let (region, table) = (&mut host.region[..], &mut host.table[..]);
+    assert_eq!(host.hub.reset(&mut region[1..], table, ZERO), Err(Refusal::BadRegion));
+    assert_eq!(host.hub.reset(region, &mut table[..2], ZERO), Err(Refusal::ShortTable));
+    assert_eq!(host.hub.disconnect(region, table, PeerId(2)), Err(Refusal::NotConnected));
+    assert_eq!(host.hub.disconnect(region, table, PeerId(u32::MAX)), Err(Refusal::NoSuchPeer));
+    assert_eq!(host.hub.register_write(region, table, ZERO, 2, 4, 0), Err(Refusal::Misaligned));
+}
+
+#[test]
+fn shared_bytes() {
+    let mut host = Host::new();
+    let (region, hub) = (&mut host.region[..], &host.hub);
+    let own = 4096 + 8192;
+    for (offset, section, may_store) in [
+        (0, Section::StateTable, false),
+        (4096, Section::ReadWrite, true),
+        (own, Section::Output(ZERO), true),
+        (own + 4096, Section::Output(ONE), false),
+    ] {
+        assert_eq!(hub.section(ZERO, offset, 4096), Ok(Placement { section, may_store }));
+        let stored = if may_store { Ok(()) } else { Err(Refusal::ReadOnly) };
+        assert_eq!(hub.store(region, ZERO, offset + 1, b"abc"), stored);
+        let mut buffer = [0xee; 5];
+        assert_eq!(hub.load(region, ONE, offset, &mut buffer), Ok(()));
+        assert_eq!(buffer, if may_store { *b"\0abc\0" } else { [0; 5] });
+    }
+    assert_eq!(hub.section(ZERO, 4095, 2), Err(Refusal::OutOfRange));
+    assert_eq!(hub.section(ZERO, 0, 0), Err(Refusal::BadWidth));
+    assert_eq!(hub.load(region, ZERO, 0, &mut []), Err(Refusal::BadWidth));
+    let mut buffer = [0xee; 2];
+    assert_eq!(hub.load(region, ZERO, 4095, &mut buffer), Err(Refusal::OutOfRange));
+    assert_eq!(hub.load(&region[1..], ZERO, 0, &mut buffer), Err(Refusal::BadRegion));
+    assert_eq!(buffer, [0xee; 2]);
+    assert_eq!(hub.store(&mut region[1..], ZERO, 4096, b"x"), Err(Refusal::BadRegion));
+}
+
+#[test]
+fn saved_and_restored() {
+    let mut host = Host::new();
+    host.switch_on(ONE, 0x41);
+    let mut restored = Hub::from_words(*host.hub.words());
+    assert_eq!(restored, host.hub);
+    assert_eq!(restored.msix_read(ONE, msix::DATA, 4), Ok(0x41));
+    assert_eq!(restored.connect(PeerId(2)), Ok(()));
+    assert_ne!(restored, host.hub);
+
+    let mut nothing = Hub::from_words([0; HUB_WORDS]);
+    assert_eq!(nothing.connect(ZERO), Err(Refusal::UnsoundHub));
+    assert_eq!(nothing.section(ZERO, 0, 1), Err(Refusal::UnsoundHub));
+    assert_eq!(nothing.words(), &[0; HUB_WORDS]);
+}
+
+#[test]
+fn raw_calls_take_any_length() {
+    let mut host = Host::new();
+    for length in [0, 1, HUB_WORDS - 1, HUB_WORDS + 1] {
+        let mut words = vec![7; length];
+        assert_eq!(raw::set_up(&mut words, &mut host.region, &SETTINGS).number, 10);
+        assert_eq!(raw::connect(&mut words, 0).number, 10);
+        assert_eq!(raw::disconnect(&mut words, &mut [], &mut [], 0).reply.number, 10);
+        assert_eq!(raw::section(&words, 0, 0, 1), raw::SectionReply { reply: refused(10), ..Default::default() });
+        assert_eq!(words, vec![7; length]);
+    }
+    let mut words = *host.hub.words();
+    assert_eq!(raw::reset(&mut words, &mut [], &mut [], 0).reply, refused(2));
+    assert_eq!(raw::reset(&mut words, &mut host.region, &mut [], 0).reply, refused(11));
+    assert_eq!(raw::load(&words, &[], 0, 0, &mut []), refused(2));
+    assert_eq!(words, *host.hub.words());
+}
+
+fn refused(number: u32) -> Reply {
+    Reply { number, value: 0 }
+}
+
+#[test]
+fn printed() {
+    assert_eq!(format!("{ONE} {}", Vector(3)), "1 3");
+    assert_eq!(format!("{:?}", Hub::from_words([0; HUB_WORDS])), "Hub { .. }");
+}

@@ -1,0 +1,115 @@
+//! Runs histories on a subject and on the model side by side.
+
+use std::fmt;
+
+use ivshmem::{HUB_WORDS, Settings};
+
+use crate::call::Event;
+use crate::count::Counts;
+use crate::generate::Generator;
+use crate::layout::decode;
+use crate::shrink::shrink;
+use crate::subject::{Answer, Model, Subject};
+use crate::world::World;
+
+/// A subject and the model, each with its own memory.
+pub struct Pair<S> {
+    subject: S,
+    model: Model,
+    ours: World,
+    models: World,
+}
+
+impl<S: Subject> Pair<S> {
+    /// Both with fresh memory.
+    pub fn new(subject: S) -> Pair<S> {
+        Pair { subject, model: Model::default(), ours: World::default(), models: World::default() }
+    }
+
+    /// The memory, which both sides agree about after an event without a difference.
+    pub fn world(&self) -> &World {
+        &self.models
+    }
+
+    /// Puts other words in the hub's place, and makes the region as long as the settings ask.
+    pub fn put(&mut self, words: &[u32; HUB_WORDS], settings: &Settings) {
+        for world in [&mut self.ours, &mut self.models] {
+            world.fit(settings);
+            world.set_hub_words(words);
+        }
+    }
+
+    /// Lets the event happen on both sides and compares the answers and all memory; a call's answer.
+    ///
+    /// # Errors
+    /// The first difference, in words.
+    pub fn apply(&mut self, event: &Event, counts: &mut Counts) -> Result<Option<Answer>, String> {
+        let ours = self.ours.apply(&mut self.subject, event);
+        let models = self.models.apply(&mut self.model, event);
+        if let (Event::Call(call, _), Some(answer)) = (event, &models) {
+            counts.add(call, answer, &self.model);
+        }
+        if let (Some(ours), Some(models)) = (&ours, &models)
+            && ours != models
+        {
+            return Err(format!("the answer is {ours}; the model's is {models}"));
+        }
+        self.ours.difference(&self.models).map_or(Ok(models), Err)
+    }
+
+    fn next_event(&self, generator: &mut Generator) -> Event {
+        let hub = decode(self.models.hub_words()).expect("the host's words are as many as a hub has");
+        generator.next(&hub, self.models.total())
+    }
+}
+
+/// A history after which subject and model differ, cut short.
+#[derive(Debug)]
+pub struct Failure {
+    /// What is left of the history.
+    pub events: Vec<Event>,
+    /// What differs after its last event.
+    pub difference: String,
+    /// How long the history was before it was cut.
+    pub found_after: usize,
+}
+
+impl fmt::Display for Failure {
+    fn fmt(&self, f: &mut fmt::Formatter<'_>) -> fmt::Result {
+        writeln!(f, "a history of {} events, cut from {}:", self.events.len(), self.found_after)?;
+        for (at, event) in self.events.iter().enumerate() {
+            writeln!(f, "{:>4}. {event}", at + 1)?;
+        }
+        write!(f, "then {}", self.difference)
+    }
+}
+
+/// Replays a history on fresh memory; the place and the words of the first difference.
+pub fn replay<S: Subject>(subject: S, events: &[Event]) -> Option<(usize, String)> {
+    let mut pair = Pair::new(subject);
+    let mut counts = Counts::default();
+    events.iter().enumerate().find_map(|(at, event)| Some((at, pair.apply(event, &mut counts).err()?)))
+}
+
+/// Makes `calls` calls or a few more in random histories and counts them.
+///
+/// # Errors
+/// The first history that shows a difference, cut short.
+pub fn run<S: Subject>(make: impl Fn() -> S, seed: u64, calls: u64) -> Result<Counts, Failure> {
+    let mut counts = Counts::default();
+    let mut generator = Generator::new(seed);
+    while counts.total() < calls {
+        let mut pair = Pair::new(make());
+        let mut events = Vec::new();
+        generator.begin();
+        while !generator.finished() {
+            let event = pair.next_event(&mut generator);
+            events.push(event);
+            let last = events.last().expect("just pushed");
+            if pair.apply(last, &mut counts).is_err() {
+                return Err(shrink(&make, events));
+            }
+        }
+    }
+    Ok(counts)
+}

@@ -1,0 +1,159 @@
+//! What a run has covered, as a table, and the least that it must have covered.
+
+use std::fmt;
+
+use crate::call::{Call, KINDS};
+use crate::hub::{Block, Ring};
+use crate::subject::{Answer, Model};
+
+/// The numbers that each kind of call can answer, in the order of [`KINDS`].
+pub const POSSIBLE: [&[u32]; 13] = [
+    &[0, 1, 2, 10],
+    &[0, 3, 5, 10],
+    &[0, 2, 3, 4, 10, 11],
+    &[0, 2, 3, 4, 10, 11],
+    &[0, 3, 4, 6, 7, 8, 10],
+    &[0, 3, 4, 6, 7, 8, 10],
+    &[0, 3, 4, 6, 7, 8, 10],
+    &[0, 2, 3, 4, 6, 7, 8, 10, 11],
+    &[0, 3, 4, 6, 7, 8, 10],
+    &[0, 3, 4, 6, 7, 8, 10],
+    &[0, 3, 4, 6, 8, 10],
+    &[0, 2, 3, 4, 6, 8, 10],
+    &[0, 2, 3, 4, 6, 8, 9, 10],
+];
+
+/// The refusals that can apply beside one that is given: with these pairs the order of the checks is seen.
+pub const BESIDE: [(u32, &[u32]); 8] = [
+    (10, &[2, 11, 3, 4, 5, 6, 7, 8, 9]),
+    (1, &[2]),
+    (2, &[11, 3, 4, 6, 7, 8, 9]),
+    (11, &[3, 4, 6, 7, 8]),
+    (3, &[6, 7, 8, 9]),
+    (4, &[6, 7, 8, 9]),
+    (6, &[7, 8]),
+    (7, &[8]),
+];
+
+/// The reasons that a ring can be lost for alone, with their names.
+pub const BLOCKS: [(Block, &str); 8] = [
+    (Block::NoSuchId, "no such id"),
+    (Block::NotConnected, "not connected"),
+    (Block::NoSuchVector, "no such vector"),
+    (Block::BusMasterOff, "Bus Master off"),
+    (Block::MsixDisabled, "MSI-X disabled"),
+    (Block::FunctionMasked, "function masked"),
+    (Block::EntryMasked, "entry masked"),
+    (Block::InterruptControlOff, "Interrupt Control 0"),
+];
+
+/// Counts of calls by kind and number, and of rings by outcome.
+#[derive(Clone, Debug, Default)]
+pub struct Counts {
+    /// Calls of each kind, by the number answered.
+    pub calls: [[u64; 12]; 13],
+    /// Refusals by the number given, and by a number that applied too and comes later in the order.
+    pub beside: [[u64; 12]; 12],
+    /// Rings delivered.
+    pub delivered: u64,
+    /// Calls that delivered more than one ring.
+    pub several: u64,
+    /// Deliveries that cleared the target's Interrupt Control.
+    pub one_shot: u64,
+    /// Rings lost for one reason alone, in the order of [`BLOCKS`].
+    pub lost_alone: [u64; 8],
+    /// Rings lost for several reasons.
+    pub lost_otherwise: u64,
+}
+
+impl Counts {
+    /// All calls.
+    #[must_use]
+    pub fn total(&self) -> u64 {
+        self.calls.iter().flatten().sum()
+    }
+
+    /// Takes in one call.
+    pub fn add(&mut self, call: &Call, answer: &Answer, model: &Model) {
+        self.calls[call.kind()][answer.number as usize] += 1;
+        self.several += u64::from(answer.count > 1);
+        for also in &model.also {
+            self.beside[answer.number as usize][*also as usize] += 1;
+        }
+        for ring in &model.rings {
+            match ring {
+                Ring::Delivered(_, one_shot) => {
+                    self.delivered += 1;
+                    self.one_shot += u64::from(*one_shot);
+                }
+                Ring::Lost(blocks) => self.add_lost(blocks),
+            }
+        }
+    }
+
+    fn add_lost(&mut self, blocks: &[Block]) {
+        match (blocks, BLOCKS.iter().position(|(block, _)| blocks.first() == Some(block))) {
+            ([_], Some(at)) => self.lost_alone[at] += 1,
+            _ => self.lost_otherwise += 1,
+        }
+    }
+
+    /// What is not covered `least` times, or should never have been answered, in words; empty is good.
+    #[must_use]
+    pub fn gaps(&self, least: u64) -> Vec<String> {
+        let mut gaps = Vec::new();
+        for (kind, counts) in self.calls.iter().enumerate() {
+            for (number, &count) in (0..).zip(counts) {
+                let possible = POSSIBLE[kind].contains(&number);
+                if possible && count < least || !possible && count > 0 {
+                    gaps.push(format!("{} answered {number} {count} times", KINDS[kind]));
+                }
+            }
+        }
+        for (given, also) in BESIDE.iter().flat_map(|(given, others)| others.iter().map(move |also| (given, also))) {
+            let count = self.beside[*given as usize][*also as usize];
+            if count < least {
+                gaps.push(format!("refused with {given} where {also} applies too: {count} times"));
+            }
+        }
+        let rings = BLOCKS.iter().map(|(_, name)| *name).zip(self.lost_alone);
+        let others = [("delivered", self.delivered), ("one-shot", self.one_shot), ("several", self.several)];
+        let few = rings.chain(others).filter(|&(_, count)| count < least);
+        gaps.extend(few.map(|(name, count)| format!("rings, {name}: {count}")));
+        gaps
+    }
+}
+
+impl fmt::Display for Counts {
+    fn fmt(&self, f: &mut fmt::Formatter<'_>) -> fmt::Result {
+        write!(f, "{:<20} {:>8}", "call", "taken")?;
+        for number in 1..12 {
+            write!(f, " {:>6}", format!("no. {number}"))?;
+        }
+        writeln!(f)?;
+        for (kind, counts) in KINDS.iter().zip(&self.calls) {
+            write!(f, "{kind:<20} {:>8}", counts[0])?;
+            for count in &counts[1..] {
+                match count {
+                    0 => write!(f, " {:>6}", "-")?,
+                    count => write!(f, " {count:>6}")?,
+                }
+            }
+            writeln!(f)?;
+        }
+        writeln!(f, "calls in all: {}", self.total())?;
+        for (given, others) in BESIDE {
+            write!(f, "refused with {given:>2} where another applies too:")?;
+            for also in others {
+                write!(f, " {also}: {},", self.beside[given as usize][*also as usize])?;
+            }
+            writeln!(f)?;
+        }
+        writeln!(f, "rings delivered: {} (clearing a one-shot: {})", self.delivered, self.one_shot)?;
+        writeln!(f, "calls that delivered more than one ring: {}", self.several)?;
+        for ((_, name), count) in BLOCKS.iter().zip(self.lost_alone) {
+            writeln!(f, "rings lost only for {name:<20} {count:>8}")?;
+        }
+        write!(f, "rings lost for several reasons: {}", self.lost_otherwise)
+    }
+}

@@ -1,0 +1,514 @@
+//! Random histories in which much happens: guests that boot and ring each other, with wrong arguments strewn in.
+
+use std::collections::VecDeque;
+
+use ivshmem::{HUB_WORDS, Settings};
+
+use crate::call::{Call, Event, KINDS, Lengths, USUAL_RECORDS};
+use crate::hub::{Hub, Numbers};
+use crate::random::Random;
+use crate::world::{LONGEST_REGION, MOST_RECORDS, MOST_WORDS};
+
+const PAGE: u64 = 4096;
+const TOP: u64 = u64::MAX;
+/// What a 32-bit computation would lose.
+const HIGH: u64 = 1 << 32;
+/// The registers, one offset behind them and one in the middle of nothing.
+const REGISTERS: [u64; 7] = [0x00, 0x04, 0x08, 0x0c, 0x10, 0x14, 0x800];
+
+/// Makes events one at a time, looking at the hub as it stands.
+pub struct Generator {
+    random: Random,
+    planned: VecDeque<Event>,
+    left: u64,
+    careless: bool,
+}
+
+impl Generator {
+    /// The same seed gives the same histories.
+    #[must_use]
+    pub fn new(seed: u64) -> Generator {
+        Generator { random: Random::new(seed), planned: VecDeque::new(), left: 0, careless: false }
+    }
+
+    /// Begins a history: a set-up, and most peers boot.
+    pub fn begin(&mut self) {
+        self.left = 600 + self.random.below(1400);
+        self.planned.clear();
+        self.plan_set_up();
+    }
+
+    /// Whether the history is at its end.
+    #[must_use]
+    pub fn finished(&self) -> bool {
+        self.left == 0 && self.planned.is_empty()
+    }
+
+    /// The next event of the history.
+    pub fn next(&mut self, hub: &Hub, total: usize) -> Event {
+        if let Some(event) = self.planned.pop_front() {
+            return event;
+        }
+        self.left -= 1;
+        if self.left == 0 && self.random.chance(1, 2) {
+            self.plan_sweep(hub);
+        }
+        match self.random.below(1000) {
+            0..2 => self.plan_refused_set_up(hub, total),
+            2..3 => self.plan_large_hub(),
+            3..7 => self.plan_damage(hub, total),
+            7..8 => self.plan_set_up(),
+            _ => {}
+        }
+        if let Some(event) = self.planned.pop_front() {
+            return event;
+        }
+        let event = self.any_call(hub, total);
+        self.plan_what_follows(&event, hub);
+        event
+    }
+
+    /// True once in so many times, and every other time where all goes wrong.
+    fn slips(&mut self, one_in: u64) -> bool {
+        self.random.chance(1, if self.careless { 2 } else { one_in })
+    }
+
+    /// Mostly the right lengths; a table as short as allowed, longer or too short.
+    fn lengths(&mut self, hub: &Hub, total: usize) -> Lengths {
+        let peers = hub.numbers.peers.clamp(1, 8);
+        let mut lengths = Lengths::USUAL;
+        if self.random.chance(1, 40) {
+            lengths.words = self.random.pick(&[0, 1, 10, HUB_WORDS - 1, HUB_WORDS + 1, MOST_WORDS]);
+        }
+        if self.slips(40) {
+            lengths.region = self.random.pick(&[-1, 1, -4096, 4, 64, -(total as i64), 8 - total as i64]);
+        }
+        let longer = USUAL_RECORDS as u64 + 1 + self.random.below((MOST_RECORDS - USUAL_RECORDS) as u64);
+        if self.slips(40) {
+            lengths.records = self.random.below(peers) as usize;
+        } else if self.random.chance(1, 6) {
+            lengths.records = self.random.pick(&[peers, longer]) as usize;
+        }
+        lengths
+    }
+
+    /// A call of a kind that is drawn by weight; set-ups are planned apart.
+    fn any_call(&mut self, hub: &Hub, total: usize) -> Event {
+        const WEIGHTS: [u64; KINDS.len()] = [0, 2, 1, 1, 7, 10, 5, 60, 4, 10, 7, 6, 8];
+        let mut draw = self.random.below(WEIGHTS.iter().sum());
+        let kind = WEIGHTS.iter().position(|weight| match draw.checked_sub(*weight) {
+            Some(rest) => {
+                draw = rest;
+                false
+            }
+            None => true,
+        });
+        self.call_of_kind(kind.unwrap_or_default(), hub, total)
+    }
+
+    /// A call of this kind, by its place in [`KINDS`], with the lengths that it is lent.
+    pub fn call_of_kind(&mut self, kind: usize, hub: &Hub, total: usize) -> Event {
+        self.careless = self.random.chance(1, 12);
+        let call = self.arguments(kind, hub, total);
+        let lengths = self.lengths(hub, total);
+        self.careless = false;
+        Event::Call(call, lengths)
+    }
+
+    fn arguments(&mut self, kind: usize, hub: &Hub, total: usize) -> Call {
+        let id = self.id(hub);
+        match kind {
+            0 => Call::SetUp(any_settings(&mut self.random)),
+            1 => self.connect(hub, id),
+            2 => Call::Disconnect { id },
+            3 => Call::Reset { id },
+            4 => {
+                let (offset, width) = self.configuration_access();
+                Call::ConfigurationRead { id, offset, width }
+            }
+            5 => self.configuration_write(id),
+            6 => {
+                let (offset, width) = self.bar_access(&REGISTERS);
+                Call::RegisterRead { id, offset, width }
+            }
+            7 => self.register_write(hub, id),
+            8 => {
+                let (offset, width) = self.msix_access();
+                Call::MsixRead { id, offset, width }
+            }
+            9 => self.msix_write(id),
+            10 => {
+                let (offset, length) = self.range(hub, id);
+                Call::Section { id, offset, length }
+            }
+            11 => {
+                let (offset, length) = self.buffer_range(hub, id, total);
+                Call::Load { id, offset, length }
+            }
+            _ => {
+                let (offset, length) = self.buffer_range(hub, id, total);
+                Call::Store { id, offset, length, fill: self.random.word() as u8 }
+            }
+        }
+    }
+
+    /// Mostly a doorbell; often a new state, or Interrupt Control switched on again.
+    fn register_write(&mut self, hub: &Hub, id: u64) -> Call {
+        let draw = if self.careless { 39 } else { self.random.below(40) };
+        let (offset, width, value) = match draw {
+            0..22 => (0x0c, 4, self.doorbell(hub, id)),
+            22..26 => (0x10, 4, self.value()),
+            26..37 => (0x08, 4, self.random.pick(&[1, 1, 1, 1, 1, 1, 1, 1, 1, 0, u32::MAX, 2])),
+            _ => {
+                let (offset, width) = self.bar_access(&REGISTERS);
+                (offset, width, self.value())
+            }
+        };
+        Call::RegisterWrite { id, offset, width, value }
+    }
+
+    /// Mostly a connected peer; sometimes any, sometimes none.
+    fn id(&mut self, hub: &Hub) -> u64 {
+        let peers = hub.numbers.peers.clamp(1, 8);
+        if self.slips(40) {
+            return self.random.pick(&[peers, peers + 1, 7, 8, 9, 255, HIGH, HIGH + 1, TOP]);
+        }
+        let start = self.random.below(peers);
+        let connected = |id: &u64| hub.peers[*id as usize].connected == 1;
+        let found = (0..peers).map(|step| (start + step) % peers).find(connected);
+        found.filter(|_| !self.slips(12)).unwrap_or(start)
+    }
+
+    fn value(&mut self) -> u32 {
+        let any = self.random.word();
+        self.random.pick(&[0, 1, 2, 3, u32::MAX, 0x8000_0000, any, any, any])
+    }
+
+    fn doorbell(&mut self, hub: &Hub, id: u64) -> u32 {
+        let (peers, vectors) = (hub.numbers.peers, hub.numbers.vectors);
+        let target = match self.random.below(24) {
+            0 => self.random.pick(&[peers, peers + 1, 8, 9, 0x100, 0xffff]),
+            1 => id,
+            2..4 => self.random.below(8),
+            _ => self.id(hub),
+        };
+        let vector = match self.random.below(24) {
+            0 => self.random.pick(&[vectors, vectors + 1, 4, 5, 0x100, 0x8000, 0xffff]),
+            _ => self.random.below(vectors.clamp(1, 4)),
+        };
+        (target as u32 & 0xffff) << 16 | vector as u32 & 0xffff
+    }
+
+    fn width(&mut self) -> u64 {
+        if self.slips(16) {
+            self.random.pick(&[0, 3, 5, 6, 7, 8, 16, 255, 256, HIGH + 1, HIGH + 4, TOP, TOP - 3])
+        } else {
+            self.random.pick(&[1, 2, 4])
+        }
+    }
+
+    fn configuration_access(&mut self) -> (u64, u64) {
+        let width = self.width();
+        let draw = if self.slips(16) { 0 } else { 1 + self.random.below(15) };
+        let offset = match draw {
+            0 => self.random.pick(&[252, 254, 255, 256, 257, 258, 260, 4096, HIGH, HIGH + 4, TOP, TOP - 1, TOP - 3]),
+            1..8 => {
+                const NAMED: [u64; 16] =
+                    [0, 4, 5, 8, 0x10, 0x11, 0x14, 0x2c, 0x34, 0x3c, 0x40, 0x43, 0x44, 0x60, 0x63, 0x64];
+                self.random.pick(&NAMED)
+            }
+            _ => self.random.below(256),
+        };
+        self.align(offset, width)
+    }
+
+    /// Mostly on a multiple of the width.
+    fn align(&mut self, offset: u64, width: u64) -> (u64, u64) {
+        match width {
+            1 | 2 | 4 if !self.slips(12) => (offset - offset % width, width),
+            _ => (offset, width),
+        }
+    }
+
+    /// Mostly a guest that switches something on.
+    fn configuration_write(&mut self, id: u64) -> Call {
+        let draw = if self.careless { 23 } else { self.random.below(24) };
+        let (offset, width, value) = match draw {
+            0..6 => (0x04, 2, self.random.pick(&[0x0006, 0x0006, 0x0006, 0x0406, 0xffff, 0x0002, 0x0004, 0])),
+            6..12 => (0x63, 1, self.random.pick(&[0x80, 0x80, 0x80, 0x80, 0xff, 0xc0, 0x00, 0x40])),
+            12..15 => (0x60, 4, self.random.pick(&[0x8000_0000, 0x8000_0000, u32::MAX, 0x4000_0000])),
+            15..17 => (0x40, 4, self.random.pick(&[0x0100_0000, u32::MAX, 0])),
+            17..19 => (0x43, 1, self.random.pick(&[0, 1, 1, 0xfe])),
+            _ => {
+                let (offset, width) = self.configuration_access();
+                (offset, width, self.value())
+            }
+        };
+        Call::ConfigurationWrite { id, offset, width, value }
+    }
+
+    /// An access to one of the named offsets or at an edge of a 4096-byte space, mostly 4 bytes.
+    fn bar_access(&mut self, named: &[u64]) -> (u64, u64) {
+        let width = if self.slips(16) { self.width() } else { 4 };
+        let draw = if self.slips(8) { self.random.below(2) } else { 2 + self.random.below(14) };
+        let offset = match draw {
+            0 => self.random.pick(&[PAGE, PAGE + 4, PAGE - 2, HIGH, HIGH + 8, HIGH + 12, TOP, TOP - 3, TOP - 7]),
+            1 => self.random.pick(&[1, 2, 3, 5, 9, 0x0d, 0x0e, 0x11, PAGE - 1, PAGE - 3]),
+            2 => PAGE - 4,
+            3 => self.random.below(PAGE / 4) * 4,
+            _ => self.random.pick(named),
+        };
+        (offset, width)
+    }
+
+    fn msix_access(&mut self) -> (u64, u64) {
+        let entry = self.random.below(5) * 16;
+        self.bar_access(&[entry, entry + 4, entry + 8, entry + 12, 0x800])
+    }
+
+    /// Mostly a guest that takes a mask off.
+    fn msix_write(&mut self, id: u64) -> Call {
+        if !self.careless && self.random.chance(1, 2) {
+            let offset = 16 * self.random.below(4) + 12;
+            return Call::MsixWrite {
+                id,
+                offset,
+                width: 4,
+                value: self.random.pick(&[0, 0, 0, 0, 0xffff_fffe, 1, u32::MAX]),
+            };
+        }
+        let (offset, width) = self.msix_access();
+        // An odd value would mask an entry too often here.
+        let value = if offset % 16 == 12 { self.value() & !1 } else { self.value() };
+        Call::MsixWrite { id, offset, width, value }
+    }
+
+    /// A shared range, mostly whole in a section.
+    fn range(&mut self, hub: &Hub, id: u64) -> (u64, u64) {
+        let (start, size) = self.section(hub, id);
+        let edge = self.random.pick(&[start, start + size, start + size / 2]);
+        let draw = self.random.below(if self.careless { 8 } else { 24 });
+        match draw {
+            0 => (start, 0),
+            1 => (
+                self.random.pick(&[TOP, TOP - 1, TOP - 3, HIGH, HIGH + start, 1 << 30, 1 << 63]),
+                1 + self.random.below(8),
+            ),
+            2 => (
+                edge,
+                self.random.pick(&[TOP, TOP - edge, (TOP - edge).saturating_add(1), HIGH, HIGH + 1, size + 1, 1 << 30]),
+            ),
+            3 => (edge.saturating_sub(self.random.below(4)), 1 + self.random.below(8)),
+            4 => (start, size),
+            5 => (start, size + self.random.below(2)),
+            6 => (start.saturating_sub(1), 1 + self.random.below(2)),
+            _ if size == 0 => (start, 1),
+            _ => {
+                let offset = self.random.below(size);
+                (start + offset, (1 + self.random.below(24)).min(size - offset))
+            }
+        }
+    }
+
+    /// A section's start and size, mostly one that the peer may store to.
+    fn section(&mut self, hub: &Hub, id: u64) -> (u64, u64) {
+        let n = &hub.numbers;
+        let owner = if self.random.chance(1, 4) { self.random.below(8) } else { id.min(8) };
+        let output = (n.state_table + n.read_write + owner * n.output, n.output);
+        match self.random.below(8) {
+            0 => (0, n.state_table),
+            1 => output,
+            2..5 if n.output > 0 => output,
+            _ if n.read_write > 0 => (n.state_table, n.read_write),
+            _ => output,
+        }
+    }
+
+    /// A range that a buffer can have.
+    fn buffer_range(&mut self, hub: &Hub, id: u64, total: usize) -> (u64, usize) {
+        let (offset, length) = self.range(hub, id);
+        (offset, length.min(total as u64 + 8) as usize)
+    }
+
+    /// Usually one that is away, so that it comes back.
+    fn connect(&mut self, hub: &Hub, id: u64) -> Call {
+        let away = |id: &u64| hub.peers[*id as usize].connected == 0;
+        let other = (0..hub.numbers.peers.min(8)).find(away).filter(|_| self.random.chance(3, 4));
+        Call::Connect { id: other.unwrap_or(id) }
+    }
+
+    /// A peer that starts anew mostly boots.
+    fn plan_what_follows(&mut self, event: &Event, hub: &Hub) {
+        if let Event::Call(Call::Connect { id } | Call::Reset { id }, _) = *event
+            && id < hub.numbers.peers
+            && self.random.chance(3, 4)
+        {
+            self.plan_boot(id, hub.numbers.vectors.min(4));
+        }
+    }
+
+    /// What a driver does: every step is left out now and then, so that single switches stay off.
+    fn plan_boot(&mut self, id: u64, vectors: u64) {
+        let command = self.random.pick(&[0x0006, 0x0006, 0x0406, 0xffff]);
+        let mut calls = vec![Call::ConfigurationWrite { id, offset: 0x04, width: 2, value: command }];
+        for v in 0..vectors {
+            let (low, high, data) = (self.value(), self.value(), self.value());
+            for (offset, value) in [(0, low), (4, high), (8, data), (12, 0)] {
+                calls.push(Call::MsixWrite { id, offset: 16 * v + offset, width: 4, value });
+            }
+        }
+        if self.random.chance(1, 3) {
+            calls.push(Call::ConfigurationWrite { id, offset: 0x43, width: 1, value: 1 });
+        }
+        calls.push(Call::ConfigurationWrite { id, offset: 0x62, width: 2, value: 0x8000 });
+        calls.push(Call::RegisterWrite { id, offset: 0x08, width: 4, value: 1 });
+        for call in calls {
+            if !self.random.chance(1, 24) {
+                self.planned.push_back(call.into());
+            }
+        }
+    }
+
+    fn plan_set_up(&mut self) {
+        let settings = good_settings(&mut self.random);
+        self.planned.push_back(Call::SetUp(settings).into());
+        for id in 0..settings.peers {
+            if !self.random.chance(1, 10) {
+                self.planned.push_back(Call::Connect { id }.into());
+                self.plan_boot(id, settings.vectors);
+            }
+        }
+    }
+
+    /// A set-up with a wrong number or region length; a few calls find no hub; a good set-up.
+    fn plan_refused_set_up(&mut self, hub: &Hub, total: usize) {
+        let wrong_length = Lengths { region: self.random.pick(&[-1, 1, 64, -4096]), ..Lengths::USUAL };
+        let wrong_words = Lengths { words: self.random.pick(&[0, HUB_WORDS - 1, HUB_WORDS + 1]), ..Lengths::USUAL };
+        for _ in 0..4 {
+            let settings = any_settings(&mut self.random);
+            let lengths = self.random.pick(&[Lengths::USUAL, wrong_length, wrong_length, wrong_words]);
+            self.planned.push_back(Event::Call(Call::SetUp(settings), lengths));
+            let event = self.any_call(hub, total);
+            self.planned.push_back(event);
+        }
+        self.plan_set_up();
+    }
+
+    /// A hub with sections near the largest, on which everything works that needs no region.
+    fn plan_large_hub(&mut self) {
+        let settings = large_settings(&mut self.random);
+        let mask = (self.random.word() | self.random.word()) as u8 | 1;
+        self.planned.push_back(Event::Plant(settings, mask));
+        let hub = Hub::fresh((&settings).into());
+        for _ in 0..24 {
+            let id = self.random.below(settings.peers);
+            let (offset, length) = self.range(&hub, id);
+            let length = if self.random.chance(1, 2) { length } else { 1 + self.random.below(4) };
+            self.planned.push_back(Call::Section { id, offset, length }.into());
+            if self.random.chance(1, 2) {
+                let event = self.any_call(&hub, 0);
+                self.planned.push_back(event);
+            }
+        }
+        for offset in (0x40..0x60).step_by(4) {
+            self.planned.push_back(Call::ConfigurationRead { id: 0, offset, width: 4 }.into());
+        }
+        self.plan_set_up();
+    }
+
+    /// Some bits turn over, calls are made, the bits turn back.
+    fn plan_damage(&mut self, hub: &Hub, total: usize) {
+        let word = self.random.below(HUB_WORDS as u64) as usize;
+        let (one, another) = (1 << self.random.below(32), 1 << self.random.below(32));
+        let bits = self.random.pick(&[one, one, one | another]);
+        self.planned.push_back(Event::Flip { word, bits });
+        for _ in 0..4 {
+            let event = self.any_call(hub, total);
+            self.planned.push_back(event);
+        }
+        self.planned.push_back(Event::Flip { word, bits });
+    }
+
+    /// Reads all that one peer can read.
+    fn plan_sweep(&mut self, hub: &Hub) {
+        let id = self.id(hub);
+        for offset in (0..256).step_by(4) {
+            self.planned.push_back(Call::ConfigurationRead { id, offset, width: 4 }.into());
+        }
+        for offset in (0..0x18).step_by(4) {
+            self.planned.push_back(Call::RegisterRead { id, offset, width: 4 }.into());
+        }
+        for offset in (0..0x44).step_by(4).chain([0x800]) {
+            self.planned.push_back(Call::MsixRead { id, offset, width: 4 }.into());
+        }
+    }
+}
+
+/// Accepted settings with a small region.
+pub fn good_settings(random: &mut Random) -> Settings {
+    let peers = 2 + random.below(7);
+    let mut settings = Settings {
+        peers,
+        vectors: 1 + random.below(4),
+        state_table: random.pick(&[PAGE, PAGE, 2 * PAGE]),
+        read_write: random.pick(&[0, PAGE, PAGE, 2 * PAGE]),
+        output: random.pick(&[0, PAGE, PAGE, 2 * PAGE]),
+        base: 0,
+        protocol: random.word() as u16,
+        subsystem_vendor: random.word() as u16,
+        subsystem: random.word() as u16,
+    };
+    if peers > 4 && settings.output > PAGE {
+        settings.output = PAGE;
+    }
+    let total = Numbers::from(&settings).total();
+    debug_assert!(total <= LONGEST_REGION);
+    let last = TOP - total as u64 + 1;
+    let any = random.long() / 2;
+    settings.base = random.pick(&[0, PAGE, HIGH - PAGE, any - any % PAGE, last]);
+    settings
+}
+
+/// Mostly bad settings.
+pub fn any_settings(random: &mut Random) -> Settings {
+    if random.chance(1, 4) { good_settings(random) } else { bad_settings(random) }
+}
+
+/// Settings with one number at or over an edge; now and then they are good all the same.
+pub fn bad_settings(random: &mut Random) -> Settings {
+    let good = good_settings(random);
+    let wrong_size =
+        random.pick(&[1, 4095, 4097, 4100, 1 << 30, (1 << 30) + PAGE, HIGH, HIGH + PAGE, TOP, TOP - 4095, 1 << 63]);
+    match random.below(9) {
+        0 => Settings { peers: random.pick(&[0, 1, 2, 8, 9, 10, HIGH + 2, TOP]), ..good },
+        1 => Settings { vectors: random.pick(&[0, 1, 4, 5, 6, HIGH + 1, TOP]), ..good },
+        2 => Settings { state_table: random.pick(&[0, 0, wrong_size]), ..good },
+        3 => Settings { read_write: wrong_size, ..good },
+        4 => Settings { output: random.pick(&[wrong_size, 1 << 61, 1 << 62, 1 << 29, 1 << 27]), ..good },
+        5 => Settings { base: random.pick(&[1, 4095, TOP, TOP - 4095, good.base + 1]), ..good },
+        6 => {
+            let total = Numbers::from(&good).total() as u64;
+            Settings { base: (TOP - total + 1).wrapping_add(random.pick(&[PAGE, 0, 1, TOP - PAGE + 1])), ..good }
+        }
+        7 => {
+            let mut large = large_settings(random);
+            large.read_write += random.pick(&[PAGE, 0, 2 * PAGE]);
+            large
+        }
+        _ => Settings { peers: random.long(), vectors: random.long(), state_table: random.long(), ..good },
+    }
+}
+
+/// Settings whose total is 2^30 exactly, or far above what the host makes.
+pub fn large_settings(random: &mut Random) -> Settings {
+    let mut settings = good_settings(random);
+    settings.base = random.pick(&[0, HIGH, TOP - (1 << 30) + 1]);
+    settings.output = random.pick(&[0, PAGE, 1 << 20, 1 << 26]);
+    let rest = (1 << 30) - settings.peers * settings.output;
+    match random.below(3) {
+        0 => (settings.state_table, settings.read_write) = (rest, 0),
+        1 => (settings.state_table, settings.read_write) = (PAGE, rest - PAGE),
+        _ => (settings.state_table, settings.read_write) = (1 << 20, 1 << 22),
+    }
+    settings
+}

@@ -1,0 +1,605 @@
+//! The hub as the scope paper describes it, written for obviousness. Refusals are the paper's numbers.
+
+use std::ops::RangeInclusive;
+
+use ivshmem::{Delivery, PeerId, Section, Vector};
+
+/// The most peers, and the most vectors of a peer.
+pub const MAX_PEERS: usize = 8;
+/// See [`MAX_PEERS`].
+pub const MAX_VECTORS: usize = 4;
+
+/// "Numbers accepted at set-up": all of them, wide enough for anything that memory can hold.
+#[derive(Clone, Copy, Debug, Default, PartialEq, Eq)]
+pub struct Numbers {
+    pub peers: u64,
+    pub vectors: u64,
+    /// S
+    pub state_table: u64,
+    /// R
+    pub read_write: u64,
+    /// O
+    pub output: u64,
+    pub base: u64,
+    pub protocol: u64,
+    pub subsystem_vendor: u64,
+    pub subsystem: u64,
+}
+
+impl From<&ivshmem::Settings> for Numbers {
+    fn from(s: &ivshmem::Settings) -> Numbers {
+        Numbers {
+            peers: s.peers,
+            vectors: s.vectors,
+            state_table: s.state_table,
+            read_write: s.read_write,
+            output: s.output,
+            base: s.base,
+            protocol: s.protocol.into(),
+            subsystem_vendor: s.subsystem_vendor.into(),
+            subsystem: s.subsystem.into(),
+        }
+    }
+}
+
+impl Numbers {
+    /// T = S + R + N*O; 128 bits hold it whatever the numbers are.
+    #[must_use]
+    pub fn total(&self) -> u128 {
+        let [s, r, n, o] = [self.state_table, self.read_write, self.peers, self.output].map(u128::from);
+        s + r + n * o
+    }
+
+    /// Whether a set-up with these numbers is accepted.
+    #[must_use]
+    pub fn accepted(&self) -> bool {
+        const PEERS: RangeInclusive<u64> = 2..=MAX_PEERS as u64;
+        const VECTORS: RangeInclusive<u64> = 1..=MAX_VECTORS as u64;
+        let whole_pages = |bytes: u64| bytes.is_multiple_of(4096);
+        PEERS.contains(&self.peers)
+            && VECTORS.contains(&self.vectors)
+            && self.state_table != 0
+            && whole_pages(self.state_table)
+            && self.state_table >= 4 * self.peers
+            && whole_pages(self.read_write)
+            && whole_pages(self.output)
+            && self.total() <= 1 << 30
+            && whole_pages(self.base)
+            && u128::from(self.base) + self.total() <= 1 << 64
+            && [self.protocol, self.subsystem_vendor, self.subsystem].iter().all(|&n| n <= 0xffff)
+    }
+}
+
+/// One MSI-X entry.
+#[derive(Clone, Copy, Debug, PartialEq, Eq)]
+pub struct Entry {
+    pub low: u32,
+    pub high: u32,
+    pub data: u32,
+    pub control: u32,
+}
+
+impl Entry {
+    /// "Reset: 0, 0, 0, 1."
+    pub const RESET: Entry = Entry { low: 0, high: 0, data: 0, control: 1 };
+
+    /// Address bits 0-1 and control bits 1-31 are fixed 0.
+    fn sound(&self) -> bool {
+        self.low & 3 == 0 && self.control <= 1
+    }
+}
+
+/// One peer's registers. `message` is the high byte of Message Control, at 63h: bit 6 function mask, bit 7 enable. The low
+/// byte is V-1, from the set-up.
+#[derive(Clone, Copy, Debug, PartialEq, Eq)]
+pub struct Peer {
+    pub connected: u32,
+    pub command: u32,
+    pub bar0: u32,
+    pub bar1: u32,
+    pub privileged: u32,
+    pub message: u32,
+    pub interrupt: u32,
+    pub state: u32,
+    pub entries: [Entry; MAX_VECTORS],
+}
+
+impl Peer {
+    /// Reset values, and not connected.
+    pub const RESET: Peer = Peer {
+        connected: 0,
+        command: 0,
+        bar0: 0,
+        bar1: 0,
+        privileged: 0,
+        message: 0,
+        interrupt: 0,
+        state: 0,
+        entries: [Entry::RESET; MAX_VECTORS],
+    };
+
+    /// Connected, with all registers at reset values.
+    pub const FRESH: Peer = Peer { connected: 1, ..Peer::RESET };
+
+    /// A connected peer whose fixed bits hold their values and whose unused vectors hold reset values.
+    fn sound(&self, vectors: u64) -> bool {
+        let (used, unused) = self.entries.split_at(vectors as usize);
+        self.connected == 1
+            && self.command & !0x0406 == 0
+            && self.bar0 & 0xfff == 0
+            && self.bar1 & 0xfff == 0
+            && self.privileged <= 1
+            && self.message & !0xc0 == 0
+            && self.interrupt <= 1
+            && used.iter().all(Entry::sound)
+            && unused.iter().all(|entry| *entry == Entry::RESET)
+    }
+}
+
+/// A switch that keeps a ring from being delivered.
+#[derive(Clone, Copy, Debug, PartialEq, Eq)]
+pub enum Block {
+    NoSuchId,
+    NotConnected,
+    NoSuchVector,
+    BusMasterOff,
+    MsixDisabled,
+    FunctionMasked,
+    EntryMasked,
+    InterruptControlOff,
+}
+
+/// What became of a ring.
+#[derive(Clone, Debug, PartialEq, Eq)]
+pub enum Ring {
+    /// Delivered; whether it cleared the target's Interrupt Control (one-shot).
+    Delivered(Delivery, bool),
+    /// Lost, for all of these reasons.
+    Lost(Vec<Block>),
+}
+
+/// The numbers of all refusals that apply to a call, in the paper's order: the first is the one given.
+#[derive(Clone, Debug, PartialEq, Eq)]
+pub struct Refused(pub Vec<u32>);
+
+impl Refused {
+    /// The number given.
+    #[must_use]
+    pub fn number(&self) -> u32 {
+        self.0[0]
+    }
+}
+
+fn refuse_where(checks: &[(u32, bool)]) -> Result<(), Refused> {
+    let numbers: Vec<u32> = checks.iter().filter(|(_, applies)| *applies).map(|(number, _)| *number).collect();
+    if numbers.is_empty() { Ok(()) } else { Err(Refused(numbers)) }
+}
+
+/// What a call asks for, as far as refusals look at it.
+struct Request {
+    /// Length of the lent region, where one is lent.
+    region: Option<usize>,
+    /// Records of the lent delivery table, where one is lent.
+    records: Option<usize>,
+    id: u64,
+    connect: bool,
+    access: Access,
+}
+
+enum Access {
+    None,
+    Space { bytes: u64, widths: &'static [u64], offset: u64, width: u64 },
+    Shared { offset: u64, length: u64, store: bool },
+}
+
+impl Request {
+    fn new(id: u64, access: Access) -> Request {
+        Request { region: None, records: None, id, connect: false, access }
+    }
+
+    fn region(self, bytes: usize) -> Request {
+        Request { region: Some(bytes), ..self }
+    }
+
+    fn records(self, records: usize) -> Request {
+        Request { records: Some(records), ..self }
+    }
+}
+
+fn configuration_access(offset: u64, width: u64) -> Access {
+    Access::Space { bytes: 256, widths: &[1, 2, 4], offset, width }
+}
+
+/// An access to the register region or the MSI-X region.
+fn bar_access(offset: u64, width: u64) -> Access {
+    Access::Space { bytes: 4096, widths: &[4], offset, width }
+}
+
+/// The answer to the section question, where it is not refused.
+#[derive(Clone, Copy, Debug, PartialEq, Eq)]
+pub struct Placement {
+    pub section: Section,
+    pub store: bool,
+}
+
+/// Settings and peers, in any state that memory can hold.
+#[derive(Clone, Debug, PartialEq, Eq)]
+pub struct Hub {
+    pub numbers: Numbers,
+    pub peers: [Peer; MAX_PEERS],
+}
+
+impl Hub {
+    /// A hub with these numbers and nobody connected.
+    #[must_use]
+    pub fn fresh(numbers: Numbers) -> Hub {
+        Hub { numbers, peers: [Peer::RESET; MAX_PEERS] }
+    }
+
+    /// "Sound: the set-up numbers would be accepted, bits that can't be written hold their fixed values, and unconnected or
+    /// unused slots and vectors hold reset values."
+    #[must_use]
+    pub fn sound(&self) -> bool {
+        self.numbers.accepted()
+            && self.peers.iter().enumerate().all(|(id, peer)| {
+                let joined = (id as u64) < self.numbers.peers && peer.connected != 0;
+                if joined { peer.sound(self.numbers.vectors) } else { *peer == Peer::RESET }
+            })
+    }
+
+    /// "When the hub says no": all refusals that apply, in the paper's order. 1 belongs to set-up alone.
+    fn refuse(&self, request: &Request) -> Result<(), Refused> {
+        let Request { region, records, id, connect, .. } = *request;
+        let exists = id < self.numbers.peers;
+        let connected = self.peers.get(id as usize).is_some_and(|peer| peer.connected == 1);
+        let [width, alignment, range, right] = self.refuse_access(id, &request.access);
+        refuse_where(&[
+            (10, !self.sound()),
+            (2, region.is_some_and(|bytes| bytes as u128 != self.numbers.total())),
+            (11, records.is_some_and(|records| (records as u64) < self.numbers.peers)),
+            (3, !exists),
+            (4, exists && !connect && !connected),
+            (5, exists && connect && connected),
+            (6, width),
+            (7, alignment),
+            (8, range),
+            (9, right),
+        ])
+    }
+
+    /// Whether 6, 7, 8 and 9 apply.
+    fn refuse_access(&self, id: u64, access: &Access) -> [bool; 4] {
+        match *access {
+            Access::None => [false; 4],
+            Access::Space { bytes, widths, offset, width } => [
+                !widths.contains(&width),
+                width != 0 && !offset.is_multiple_of(width),
+                offset.checked_add(width).is_none_or(|end| end > bytes),
+                false,
+            ],
+            Access::Shared { length: 0, .. } => [true, false, false, false],
+            Access::Shared { offset, length, store } => match self.section_of(offset, length) {
+                None => [false, false, true, false],
+                Some(section) => [false, false, false, store && !may_store(id, section)],
+            },
+        }
+    }
+
+    /// Set-up: the hub, and the region all zero. No hub is handed in, so whatever the words held before, 10 does not apply.
+    ///
+    /// # Errors
+    /// 1 or 2.
+    pub fn set_up(numbers: Numbers, region: &mut [u8]) -> Result<Hub, Refused> {
+        refuse_where(&[(1, !numbers.accepted()), (2, region.len() as u128 != numbers.total())])?;
+        region.fill(0);
+        Ok(Hub::fresh(numbers))
+    }
+
+    /// "Connect: reset values, no ring."
+    ///
+    /// # Errors
+    /// 10, 3 or 5.
+    pub fn connect(&mut self, id: u64) -> Result<(), Refused> {
+        self.refuse(&Request { connect: true, ..Request::new(id, Access::None) })?;
+        self.peers[id as usize] = Peer::FRESH;
+        Ok(())
+    }
+
+    /// "Reset: all registers to reset values, entry 0, then vector 0 rung at the others."
+    ///
+    /// # Errors
+    /// 10, 2, 11, 3 or 4.
+    pub fn reset(&mut self, region: &mut [u8], records: usize, id: u64) -> Result<Vec<Ring>, Refused> {
+        self.leave(region, records, id, Peer::FRESH)
+    }
+
+    /// "Disconnect: the same, and the peer is gone."
+    ///
+    /// # Errors
+    /// 10, 2, 11, 3 or 4.
+    pub fn disconnect(&mut self, region: &mut [u8], records: usize, id: u64) -> Result<Vec<Ring>, Refused> {
+        self.leave(region, records, id, Peer::RESET)
+    }
+
+    fn leave(&mut self, region: &mut [u8], records: usize, id: u64, after: Peer) -> Result<Vec<Ring>, Refused> {
+        self.refuse(&Request::new(id, Access::None).region(region.len()).records(records))?;
+        self.peers[id as usize] = after;
+        set_table_entry(region, id, 0);
+        Ok(self.ring_others(id))
+    }
+
+    /// The 256 bytes of the peer's configuration space.
+    fn configuration(&self, id: usize) -> [u8; 256] {
+        let (numbers, peer) = (&self.numbers, &self.peers[id]);
+        let mut space = [0; 256];
+        let mut put = |at: usize, bytes: &[u8]| space[at..at + bytes.len()].copy_from_slice(bytes);
+        put(0x00, &[0x0a, 0x11, 0x06, 0x41]);
+        put(0x04, &(peer.command as u16).to_le_bytes());
+        put(0x06, &[0x10, 0x00]);
+        put(0x09, &(numbers.protocol as u16).to_le_bytes());
+        put(0x0b, &[0xff]);
+        put(0x10, &peer.bar0.to_le_bytes());
+        put(0x14, &peer.bar1.to_le_bytes());
+        put(0x2c, &(numbers.subsystem_vendor as u16).to_le_bytes());
+        put(0x2e, &(numbers.subsystem as u16).to_le_bytes());
+        put(0x34, &[0x40]);
+        put(0x40, &[0x09, 0x60, 0x20, peer.privileged as u8]);
+        put(0x44, &(numbers.state_table as u32).to_le_bytes());
+        put(0x48, &numbers.read_write.to_le_bytes());
+        put(0x50, &numbers.output.to_le_bytes());
+        put(0x58, &numbers.base.to_le_bytes());
+        put(0x60, &[0x11, 0x00]);
+        put(0x62, &[(numbers.vectors - 1) as u8, peer.message as u8]);
+        put(0x64, &0x0000_0001_u32.to_le_bytes());
+        put(0x68, &0x0000_0801_u32.to_le_bytes());
+        space
+    }
+
+    /// # Errors
+    /// 10, 3, 4, 6, 7 or 8.
+    pub fn configuration_read(&self, id: u64, offset: u64, width: u64) -> Result<u32, Refused> {
+        self.refuse(&Request::new(id, configuration_access(offset, width)))?;
+        let (start, width) = (offset as usize, width as usize);
+        let mut bytes = [0; 4];
+        bytes[..width].copy_from_slice(&self.configuration(id as usize)[start..start + width]);
+        Ok(u32::from_le_bytes(bytes))
+    }
+
+    /// # Errors
+    /// 10, 3, 4, 6, 7 or 8.
+    pub fn configuration_write(&mut self, id: u64, offset: u64, width: u64, value: u32) -> Result<(), Refused> {
+        self.refuse(&Request::new(id, configuration_access(offset, width)))?;
+        let mut space = self.configuration(id as usize);
+        for (at, byte) in (offset as usize..).zip(value.to_le_bytes()).take(width as usize) {
+            let mask = writable_bits(at);
+            space[at] = space[at] & !mask | byte & mask;
+        }
+        let two = |at: usize| u32::from(u16::from_le_bytes([space[at], space[at + 1]]));
+        let peer = &mut self.peers[id as usize];
+        peer.command = two(0x04);
+        peer.bar0 = two(0x12) << 16 | two(0x10);
+        peer.bar1 = two(0x16) << 16 | two(0x14);
+        peer.privileged = u32::from(space[0x43]);
+        peer.message = u32::from(space[0x63]);
+        Ok(())
+    }
+
+    /// "With the peer's Command bit 1 off, this region and the MSI-X region read FFFFFFFFh and stores do nothing."
+    fn hidden(&self, id: u64) -> bool {
+        self.peers[id as usize].command & 1 << 1 == 0
+    }
+
+    /// # Errors
+    /// 10, 3, 4, 6, 7 or 8.
+    pub fn register_read(&self, id: u64, offset: u64, width: u64) -> Result<u32, Refused> {
+        self.refuse(&Request::new(id, bar_access(offset, width)))?;
+        if self.hidden(id) {
+            return Ok(0xffff_ffff);
+        }
+        let peer = &self.peers[id as usize];
+        Ok(match offset {
+            0x00 => id as u32,
+            0x04 => self.numbers.peers as u32,
+            0x08 => peer.interrupt,
+            0x10 => peer.state,
+            _ => 0,
+        })
+    }
+
+    /// # Errors
+    /// 10, 2, 11, 3, 4, 6, 7 or 8.
+    pub fn register_write(
+        &mut self,
+        region: &mut [u8],
+        records: usize,
+        id: u64,
+        (offset, width): (u64, u64),
+        value: u32,
+    ) -> Result<Vec<Ring>, Refused> {
+        self.refuse(&Request::new(id, bar_access(offset, width)).region(region.len()).records(records))?;
+        if self.hidden(id) {
+            return Ok(Vec::new());
+        }
+        let peer = &mut self.peers[id as usize];
+        match offset {
+            0x08 => {
+                peer.interrupt = value & 1;
+                Ok(Vec::new())
+            }
+            // Doorbell: v = bits 0-15, t = bits 16-31; a peer may ring itself.
+            0x0c => Ok(vec![self.ring(u64::from(value >> 16), u64::from(value & 0xffff))]),
+            0x10 => {
+                peer.state = value;
+                set_table_entry(region, id, value);
+                Ok(self.ring_others(id))
+            }
+            _ => Ok(Vec::new()),
+        }
+    }
+
+    /// # Errors
+    /// 10, 3, 4, 6, 7 or 8.
+    pub fn msix_read(&self, id: u64, offset: u64, width: u64) -> Result<u32, Refused> {
+        self.refuse(&Request::new(id, bar_access(offset, width)))?;
+        if self.hidden(id) {
+            return Ok(0xffff_ffff);
+        }
+        if offset / 16 >= self.numbers.vectors {
+            return Ok(0);
+        }
+        let entry = &self.peers[id as usize].entries[(offset / 16) as usize];
+        Ok(match offset % 16 {
+            0 => entry.low,
+            4 => entry.high,
+            8 => entry.data,
+            _ => entry.control,
+        })
+    }
+
+    /// # Errors
+    /// 10, 3, 4, 6, 7 or 8.
+    pub fn msix_write(&mut self, id: u64, offset: u64, width: u64, value: u32) -> Result<(), Refused> {
+        self.refuse(&Request::new(id, bar_access(offset, width)))?;
+        if self.hidden(id) || offset / 16 >= self.numbers.vectors {
+            return Ok(());
+        }
+        let entry = &mut self.peers[id as usize].entries[(offset / 16) as usize];
+        match offset % 16 {
+            0 => entry.low = value & !3,
+            4 => entry.high = value,
+            8 => entry.data = value,
+            _ => entry.control = value & 1,
+        }
+        Ok(())
+    }
+
+    /// "It is delivered exactly when" none of these holds. Where there is no such peer or vector, what it lacks can't be
+    /// looked at.
+    #[must_use]
+    pub fn blocks(&self, target: u64, vector: u64) -> Vec<Block> {
+        let mut blocks = Vec::new();
+        let mut unless = |holds: bool, block: Block| {
+            if !holds {
+                blocks.push(block);
+            }
+        };
+        let has_vector = vector < self.numbers.vectors;
+        unless(has_vector, Block::NoSuchVector);
+        unless(target < self.numbers.peers, Block::NoSuchId);
+        if target >= self.numbers.peers {
+            return blocks;
+        }
+        let peer = &self.peers[target as usize];
+        unless(peer.connected == 1, Block::NotConnected);
+        if peer.connected != 1 {
+            return blocks;
+        }
+        unless(peer.command & 1 << 2 != 0, Block::BusMasterOff);
+        unless(peer.message & 1 << 7 != 0, Block::MsixDisabled);
+        unless(peer.message & 1 << 6 == 0, Block::FunctionMasked);
+        unless(peer.interrupt == 1, Block::InterruptControlOff);
+        if has_vector {
+            unless(peer.entries[vector as usize].control & 1 == 0, Block::EntryMasked);
+        }
+        blocks
+    }
+
+    /// "One bolt": deliver, then clear the target's Interrupt Control if it is one-shot; or change nothing.
+    fn ring(&mut self, target: u64, vector: u64) -> Ring {
+        let blocks = self.blocks(target, vector);
+        if !blocks.is_empty() {
+            return Ring::Lost(blocks);
+        }
+        let peer = &mut self.peers[target as usize];
+        let entry = &peer.entries[vector as usize];
+        let delivery = Delivery {
+            target: PeerId(target as u32),
+            vector: Vector(vector as u32),
+            address: u64::from(entry.high) << 32 | u64::from(entry.low),
+            payload: entry.data,
+        };
+        let one_shot = peer.privileged & 1 == 1;
+        if one_shot {
+            peer.interrupt = 0;
+        }
+        Ring::Delivered(delivery, one_shot)
+    }
+
+    /// "then vector 0 is rung at every other id, ascending."
+    fn ring_others(&mut self, id: u64) -> Vec<Ring> {
+        (0..self.numbers.peers).filter(|&other| other != id).map(|other| self.ring(other, 0)).collect()
+    }
+
+    /// "A shared range lies whole in one section or in none." The range is not empty.
+    #[must_use]
+    pub fn section_of(&self, offset: u64, length: u64) -> Option<Section> {
+        let Numbers { peers, state_table, read_write, output, .. } = self.numbers;
+        let inside = |start: u64, size: u64| {
+            offset >= start && u128::from(offset) + u128::from(length) <= u128::from(start) + u128::from(size)
+        };
+        if inside(0, state_table) {
+            return Some(Section::StateTable);
+        }
+        if inside(state_table, read_write) {
+            return Some(Section::ReadWrite);
+        }
+        let owner =
+            (0..peers.min(MAX_PEERS as u64)).find(|owner| inside(state_table + read_write + owner * output, output));
+        owner.map(|owner| Section::Output(PeerId(owner as u32)))
+    }
+
+    /// The section question; it never gives 9.
+    ///
+    /// # Errors
+    /// 10, 3, 4, 6 or 8.
+    pub fn section(&self, id: u64, offset: u64, length: u64) -> Result<Placement, Refused> {
+        self.refuse(&Request::new(id, Access::Shared { offset, length, store: false }))?;
+        let section = self.section_of(offset, length).ok_or(Refused(vec![8]))?;
+        Ok(Placement { section, store: may_store(id, section) })
+    }
+
+    /// # Errors
+    /// 10, 2, 3, 4, 6 or 8.
+    pub fn load(&self, region: &[u8], id: u64, offset: u64, buffer: &mut [u8]) -> Result<(), Refused> {
+        let access = Access::Shared { offset, length: buffer.len() as u64, store: false };
+        self.refuse(&Request::new(id, access).region(region.len()))?;
+        buffer.copy_from_slice(&region[offset as usize..][..buffer.len()]);
+        Ok(())
+    }
+
+    /// # Errors
+    /// 10, 2, 3, 4, 6, 8 or 9.
+    pub fn store(&self, region: &mut [u8], id: u64, offset: u64, bytes: &[u8]) -> Result<(), Refused> {
+        let access = Access::Shared { offset, length: bytes.len() as u64, store: true };
+        self.refuse(&Request::new(id, access).region(region.len()))?;
+        region[offset as usize..][..bytes.len()].copy_from_slice(bytes);
+        Ok(())
+    }
+}
+
+/// "A write replaces, byte by byte, only the bits of this mask."
+fn writable_bits(at: usize) -> u8 {
+    match at {
+        0x04 => 0x06,
+        0x05 => 0x04,
+        0x11 | 0x15 => 0xf0,
+        0x12 | 0x13 | 0x16 | 0x17 => 0xff,
+        0x43 => 0x01,
+        0x63 => 0xc0,
+        _ => 0x00,
+    }
+}
+
+/// "the region's bytes 4*id to 4*id+3 take it little-endian"
+fn set_table_entry(region: &mut [u8], id: u64, value: u32) {
+    region[4 * id as usize..][..4].copy_from_slice(&value.to_le_bytes());
+}
+
+/// "it stores to R/W and its own output"
+fn may_store(id: u64, section: Section) -> bool {
+    match section {
+        Section::StateTable => false,
+        Section::ReadWrite => true,
+        Section::Output(owner) => u64::from(owner.0) == id,
+    }
+}

@@ -1,0 +1,171 @@
+//! Cuts a failing history short: drops events, then makes numbers simpler, as long as it still fails.
+
+use crate::call::{Call, Event, Lengths};
+use crate::compare::{Failure, replay};
+use crate::subject::Subject;
+
+/// How often a number is made simpler, and how often the whole is gone over.
+const ROUNDS: usize = 50;
+
+/// The shortest history found that still shows a difference.
+pub fn shrink<S: Subject>(make: &impl Fn() -> S, mut events: Vec<Event>) -> Failure {
+    let found_after = events.len();
+    cut_after_failure(make, &mut events);
+    for _ in 0..ROUNDS {
+        let before = events.clone();
+        drop_events(make, &mut events);
+        drop_pairs(make, &mut events);
+        simplify_events(make, &mut events);
+        if events == before {
+            break;
+        }
+    }
+    let difference = replay(make(), &events).map_or("nothing differs when replayed".to_string(), |(_, text)| text);
+    Failure { events, difference, found_after }
+}
+
+fn cut_after_failure<S: Subject>(make: &impl Fn() -> S, events: &mut Vec<Event>) {
+    if let Some((at, _)) = replay(make(), events) {
+        events.truncate(at + 1);
+    }
+}
+
+fn drop_events<S: Subject>(make: &impl Fn() -> S, events: &mut Vec<Event>) {
+    let mut size = events.len() / 2;
+    while size > 0 {
+        let mut end = events.len();
+        while end > 0 {
+            let start = end.saturating_sub(size);
+            let mut shorter = events.clone();
+            shorter.drain(start..end);
+            if replay(make(), &shorter).is_some() {
+                *events = shorter;
+                cut_after_failure(make, events);
+            }
+            end = start.min(events.len());
+        }
+        size /= 2;
+    }
+}
+
+/// Two events that undo each other only go together; this looks at all pairs, so the history must be short by now.
+fn drop_pairs<S: Subject>(make: &impl Fn() -> S, events: &mut Vec<Event>) {
+    let pairs = |length: usize| (0..length).flat_map(move |second| (0..second).map(move |first| (first, second)));
+    while let Some(shorter) = pairs(events.len().min(40)).find_map(|(first, second)| {
+        let mut shorter = events.clone();
+        shorter.remove(second);
+        shorter.remove(first);
+        replay(make(), &shorter).map(|_| shorter)
+    }) {
+        *events = shorter;
+    }
+}
+
+fn simplify_events<S: Subject>(make: &impl Fn() -> S, events: &mut Vec<Event>) {
+    for at in 0..events.len() {
+        // Each round takes the first simpler form that still fails. Going down by ones can take long, so not all the way.
+        for _ in 0..ROUNDS {
+            let Some(simpler) = simpler_forms(&events[at]).into_iter().find(|form| {
+                let mut candidate = events.clone();
+                candidate[at] = form.clone();
+                replay(make(), &candidate).is_some()
+            }) else {
+                break;
+            };
+            events[at] = simpler;
+        }
+    }
+    cut_after_failure(make, events);
+}
+
+/// Forms of an event with one number made simpler; every number only goes down, so that this comes to an end.
+fn simpler_forms(event: &Event) -> Vec<Event> {
+    match event {
+        Event::Call(call, lengths) => {
+            let usual = (*lengths != Lengths::USUAL).then(|| Event::Call(call.clone(), Lengths::USUAL));
+            let calls = simpler_calls(call).into_iter().map(|simpler| Event::Call(simpler, *lengths));
+            usual.into_iter().chain(calls).collect()
+        }
+        Event::Flip { word, bits } => {
+            let one_bit = 1 << bits.trailing_zeros().min(31);
+            let form = Event::Flip { word: *word, bits: one_bit };
+            if *bits == one_bit { Vec::new() } else { vec![form] }
+        }
+        Event::Plant(..) => Vec::new(),
+    }
+}
+
+fn simpler_calls(call: &Call) -> Vec<Call> {
+    let mut forms = Vec::new();
+    for field in 0..9 {
+        for step in 0..5 {
+            let mut form = call.clone();
+            if let Some(number) = field_of(&mut form, field) {
+                number.lower(step);
+            }
+            if form != *call && !forms.contains(&form) {
+                forms.push(form);
+            }
+        }
+    }
+    forms
+}
+
+/// A number of a call, to be made simpler in place.
+enum Field<'a> {
+    Byte(&'a mut u8),
+    Half(&'a mut u16),
+    Word(&'a mut u32),
+    Long(&'a mut u64),
+    Size(&'a mut usize),
+}
+
+impl Field<'_> {
+    fn lower(self, step: u32) {
+        let lowered = |number: u64| match step {
+            0 => 0,
+            1 => number.min(1),
+            2 => number / 2,
+            3 => number - number.checked_ilog2().map_or(0, |bit| 1 << bit),
+            _ => number.saturating_sub(1),
+        };
+        match self {
+            Field::Byte(number) => *number = lowered(u64::from(*number)) as u8,
+            Field::Half(number) => *number = lowered(u64::from(*number)) as u16,
+            Field::Word(number) => *number = lowered(u64::from(*number)) as u32,
+            Field::Long(number) => *number = lowered(*number),
+            Field::Size(number) => *number = lowered(*number as u64) as usize,
+        }
+    }
+}
+
+fn field_of(call: &mut Call, field: usize) -> Option<Field<'_>> {
+    let fields = match call {
+        Call::SetUp(s) => vec![
+            Field::Long(&mut s.peers),
+            Field::Long(&mut s.vectors),
+            Field::Long(&mut s.state_table),
+            Field::Long(&mut s.read_write),
+            Field::Long(&mut s.output),
+            Field::Long(&mut s.base),
+            Field::Half(&mut s.protocol),
+            Field::Half(&mut s.subsystem_vendor),
+            Field::Half(&mut s.subsystem),
+        ],
+        Call::Connect { id } | Call::Disconnect { id } | Call::Reset { id } => vec![Field::Long(id)],
+        Call::ConfigurationRead { id, offset, width }
+        | Call::RegisterRead { id, offset, width }
+        | Call::MsixRead { id, offset, width } => vec![Field::Long(id), Field::Long(offset), Field::Long(width)],
+        Call::ConfigurationWrite { id, offset, width, value }
+        | Call::RegisterWrite { id, offset, width, value }
+        | Call::MsixWrite { id, offset, width, value } => {
+            vec![Field::Long(id), Field::Long(offset), Field::Long(width), Field::Word(value)]
+        }
+        Call::Section { id, offset, length } => vec![Field::Long(id), Field::Long(offset), Field::Long(length)],
+        Call::Load { id, offset, length } => vec![Field::Long(id), Field::Long(offset), Field::Size(length)],
+        Call::Store { id, offset, length, fill } => {
+            vec![Field::Long(id), Field::Long(offset), Field::Size(length), Field::Byte(fill)]
+        }
+    };
+    fields.into_iter().nth(field)
+}

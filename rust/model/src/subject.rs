@@ -1,0 +1,191 @@
+//! What is compared: the library and the model behind one trait, both working on plain lent memory.
+
+use std::fmt;
+
+use ivshmem::raw::{self, Counted, Reply};
+use ivshmem::{Delivery, Section};
+
+use crate::call::Call;
+use crate::hub::{Hub, Numbers, Refused, Ring};
+use crate::layout::{decode, encode};
+
+/// Everything that a call answers; what its kind has not stays 0.
+#[derive(Clone, Copy, Debug, Default, PartialEq, Eq)]
+pub struct Answer {
+    pub number: u32,
+    pub value: u32,
+    pub count: usize,
+    pub kind: u32,
+    pub owner: u32,
+    pub store: u32,
+}
+
+impl fmt::Display for Answer {
+    fn fmt(&self, f: &mut fmt::Formatter<'_>) -> fmt::Result {
+        write!(f, "number {}, value {:#x}", self.number, self.value)?;
+        write!(f, ", {} delivered, section {} of {}, store {}", self.count, self.kind, self.owner, self.store)
+    }
+}
+
+/// The memory lent to a call. A store's bytes stand in the buffer.
+pub struct Lent<'a> {
+    pub words: &'a mut [u32],
+    pub region: &'a mut [u8],
+    pub table: &'a mut [Delivery],
+    pub buffer: &'a mut [u8],
+}
+
+/// Something that answers calls.
+pub trait Subject {
+    /// Makes the call on the lent memory.
+    fn perform(&mut self, call: &Call, lent: Lent<'_>) -> Answer;
+}
+
+impl From<Reply> for Answer {
+    fn from(reply: Reply) -> Answer {
+        Answer { number: reply.number, value: reply.value, ..Answer::default() }
+    }
+}
+
+impl From<Counted> for Answer {
+    fn from(counted: Counted) -> Answer {
+        Answer { count: counted.count, ..counted.reply.into() }
+    }
+}
+
+/// The linked library.
+pub struct Library;
+
+impl Subject for Library {
+    fn perform(&mut self, call: &Call, lent: Lent<'_>) -> Answer {
+        let Lent { words, region, table, buffer } = lent;
+        match *call {
+            Call::SetUp(settings) => raw::set_up(words, region, &settings).into(),
+            Call::Connect { id } => raw::connect(words, id).into(),
+            Call::Disconnect { id } => raw::disconnect(words, region, table, id).into(),
+            Call::Reset { id } => raw::reset(words, region, table, id).into(),
+            Call::ConfigurationRead { id, offset, width } => raw::configuration_read(words, id, offset, width).into(),
+            Call::ConfigurationWrite { id, offset, width, value } => {
+                raw::configuration_write(words, id, offset, width, value).into()
+            }
+            Call::RegisterRead { id, offset, width } => raw::register_read(words, id, offset, width).into(),
+            Call::RegisterWrite { id, offset, width, value } => {
+                raw::register_write(words, region, table, id, offset, width, value).into()
+            }
+            Call::MsixRead { id, offset, width } => raw::msix_read(words, id, offset, width).into(),
+            Call::MsixWrite { id, offset, width, value } => raw::msix_write(words, id, offset, width, value).into(),
+            Call::Section { id, offset, length } => {
+                let answer = raw::section(words, id, offset, length);
+                Answer { kind: answer.kind, owner: answer.owner, store: answer.store, ..answer.reply.into() }
+            }
+            Call::Load { id, offset, .. } => raw::load(words, region, id, offset, buffer).into(),
+            Call::Store { id, offset, .. } => raw::store(words, region, id, offset, buffer).into(),
+        }
+    }
+}
+
+/// The model. It also keeps what happened in the last call, to be counted.
+#[derive(Default)]
+pub struct Model {
+    /// What became of its rings, in order.
+    pub rings: Vec<Ring>,
+    /// The refusals that applied beside the one given.
+    pub also: Vec<u32>,
+}
+
+impl Subject for Model {
+    fn perform(&mut self, call: &Call, lent: Lent<'_>) -> Answer {
+        self.rings.clear();
+        self.also.clear();
+        let Some(mut hub) = decode(lent.words) else {
+            // Words of another length are no hub, whatever they hold. The paper's "all-zero hub" of a refused set-up is read as
+            // what 1 and 2 leave: where the words can't hold a hub they stay as they were, as with every other refusal.
+            return self.refused(Refused(vec![10]));
+        };
+        let Lent { words, region, table, buffer } = lent;
+        match self.step(&mut hub, call, region, table.len(), buffer) {
+            Err(refused) => {
+                if let Call::SetUp(_) = call {
+                    // "A refused set-up returns an all-zero hub."
+                    words.fill(0);
+                }
+                self.refused(refused)
+            }
+            Ok(mut answer) => {
+                words.copy_from_slice(&encode(&hub));
+                answer.count = hand_out(&self.rings, table);
+                answer
+            }
+        }
+    }
+}
+
+impl Model {
+    fn step(
+        &mut self,
+        hub: &mut Hub,
+        call: &Call,
+        region: &mut [u8],
+        records: usize,
+        buffer: &mut [u8],
+    ) -> Result<Answer, Refused> {
+        let done = |()| Answer::default();
+        let read = |value: u32| Answer { value, ..Answer::default() };
+        match *call {
+            Call::SetUp(settings) => Hub::set_up(Numbers::from(&settings), region).map(|fresh| {
+                *hub = fresh;
+                Answer::default()
+            }),
+            Call::Connect { id } => hub.connect(id).map(done),
+            Call::Disconnect { id } => hub.disconnect(region, records, id).map(|rings| self.keep(rings)),
+            Call::Reset { id } => hub.reset(region, records, id).map(|rings| self.keep(rings)),
+            Call::ConfigurationRead { id, offset, width } => hub.configuration_read(id, offset, width).map(read),
+            Call::ConfigurationWrite { id, offset, width, value } => {
+                hub.configuration_write(id, offset, width, value).map(done)
+            }
+            Call::RegisterRead { id, offset, width } => hub.register_read(id, offset, width).map(read),
+            Call::RegisterWrite { id, offset, width, value } => {
+                hub.register_write(region, records, id, (offset, width), value).map(|rings| self.keep(rings))
+            }
+            Call::MsixRead { id, offset, width } => hub.msix_read(id, offset, width).map(read),
+            Call::MsixWrite { id, offset, width, value } => hub.msix_write(id, offset, width, value).map(done),
+            Call::Section { id, offset, length } => hub.section(id, offset, length).map(|placement| {
+                let (kind, owner) = section_numbers(placement.section);
+                Answer { kind, owner, store: placement.store.into(), ..Answer::default() }
+            }),
+            Call::Load { id, offset, .. } => hub.load(region, id, offset, buffer).map(done),
+            Call::Store { id, offset, .. } => hub.store(region, id, offset, buffer).map(done),
+        }
+    }
+
+    fn keep(&mut self, rings: Vec<Ring>) -> Answer {
+        self.rings = rings;
+        Answer::default()
+    }
+
+    /// "A refusal returns its number, value 0 and no deliveries, and a refused question names no section and says no."
+    fn refused(&mut self, refused: Refused) -> Answer {
+        let number = refused.number();
+        self.also = refused.0;
+        self.also.remove(0);
+        Answer { number, ..Answer::default() }
+    }
+}
+
+/// The table is "filled from the front, later records untouched"; answers the count.
+fn hand_out(rings: &[Ring], table: &mut [Delivery]) -> usize {
+    let delivered = rings.iter().filter_map(|ring| match ring {
+        Ring::Delivered(delivery, _) => Some(*delivery),
+        Ring::Lost(_) => None,
+    });
+    table.iter_mut().zip(delivered).map(|(record, delivery)| *record = delivery).count()
+}
+
+/// The header's numbers for a section: its kind and its owner.
+fn section_numbers(section: Section) -> (u32, u32) {
+    match section {
+        Section::StateTable => (1, 0),
+        Section::ReadWrite => (2, 0),
+        Section::Output(owner) => (3, owner.0),
+    }
+}

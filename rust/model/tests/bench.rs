@@ -1,0 +1,184 @@
+//! The cases of the scope paper's bench, on the model and the library at once.
+
+use ivshmem::{Delivery, PeerId, Settings, Vector};
+use model::call::{Call, Event, Lengths};
+use model::compare::Pair;
+use model::count::Counts;
+use model::subject::{Answer, Library};
+
+struct Bench(Pair<Library>);
+
+impl Bench {
+    fn new(settings: Settings, connected: &[u64]) -> Bench {
+        let mut bench = Bench(Pair::new(Library));
+        assert_eq!(bench.number(Call::SetUp(settings)), 0);
+        for &id in connected {
+            assert_eq!(bench.number(Call::Connect { id }), 0);
+        }
+        bench
+    }
+
+    fn answer(&mut self, event: impl Into<Event>) -> Answer {
+        let answer = self.0.apply(&event.into(), &mut Counts::default()).expect("library and model agree");
+        answer.expect("a call has an answer")
+    }
+
+    fn number(&mut self, call: Call) -> u32 {
+        self.answer(call).number
+    }
+
+    fn read(&mut self, offset: u64) -> u32 {
+        self.answer(Call::ConfigurationRead { id: 0, offset, width: 4 }).value
+    }
+
+    fn write(&mut self, id: u64, offset: u64, width: u64, value: u32) {
+        assert_eq!(self.number(Call::ConfigurationWrite { id, offset, width, value }), 0);
+    }
+
+    fn register(&mut self, id: u64, offset: u64, value: u32) -> Vec<Delivery> {
+        let answer = self.answer(Call::RegisterWrite { id, offset, width: 4, value });
+        assert_eq!(answer.number, 0);
+        self.0.world().table()[..answer.count].to_vec()
+    }
+
+    /// All switches on, and entry 0 with this data.
+    fn switch_on(&mut self, id: u64, data: u32) {
+        self.write(id, 0x04, 2, 0x0006);
+        self.write(id, 0x62, 2, 0x8000);
+        for (offset, value) in [(0, 0xfee0_0000), (8, data), (12, 0)] {
+            assert_eq!(self.number(Call::MsixWrite { id, offset, width: 4, value }), 0);
+        }
+        assert_eq!(self.register(id, 0x08, 1), []);
+    }
+}
+
+fn four_peers(vectors: u64) -> Settings {
+    Settings { peers: 4, vectors, state_table: 4096, protocol: 0x0001, ..Settings::default() }
+}
+
+#[test]
+fn fresh_peer() {
+    let mut bench = Bench::new(four_peers(4), &[0]);
+    let expected = [(0x00, 0x4106_110a), (0x08, 0xff00_0100), (0x40, 0x0020_6009), (0x60, 0x0003_0011)];
+    for (offset, value) in expected {
+        assert_eq!(bench.read(offset), value, "at {offset:#x}");
+    }
+}
+
+#[test]
+fn writes_change_only_what_can_be_written() {
+    let mut bench = Bench::new(four_peers(4), &[0]);
+    bench.write(0, 0x04, 2, 0xffff);
+    assert_eq!(bench.read(0x04), 0x0010_0406);
+    bench.write(0, 0x10, 4, 0xffff_ffff);
+    assert_eq!(bench.read(0x10), 0xffff_f000);
+    bench.write(0, 0x60, 4, 0xffff_ffff);
+    assert_eq!(bench.read(0x60), 0xc003_0011);
+    bench.write(0, 0x40, 4, 0xffff_ffff);
+    assert_eq!(bench.read(0x40), 0x0120_6009);
+}
+
+#[test]
+fn command_hides_the_registers() {
+    let mut bench = Bench::new(four_peers(4), &[0]);
+    let peers = Call::RegisterRead { id: 0, offset: 0x04, width: 4 };
+    assert_eq!(bench.answer(peers.clone()).value, 0xffff_ffff);
+    bench.write(0, 0x04, 2, 0x0002);
+    assert_eq!(bench.answer(peers).value, 4);
+}
+
+#[test]
+fn doorbell_names_vector_and_id() {
+    let mut bench = Bench::new(four_peers(2), &[0, 3]);
+    bench.switch_on(0, 0x40);
+    bench.switch_on(3, 0x43);
+    for (offset, value) in [(0x18, 0x99), (0x1c, 0)] {
+        assert_eq!(bench.number(Call::MsixWrite { id: 3, offset, width: 4, value }), 0);
+    }
+    let delivered = Delivery { target: PeerId(3), vector: Vector(1), address: 0, payload: 0x99 };
+    assert_eq!(bench.register(0, 0x0c, 0x0003_0001), [delivered]);
+}
+
+#[test]
+fn stores_keep_to_the_sections() {
+    let settings = Settings { peers: 2, vectors: 1, state_table: 4096, output: 4096, ..Settings::default() };
+    let mut bench = Bench::new(settings, &[0, 1]);
+    let mut store = |id, offset, length| bench.number(Call::Store { id, offset, length, fill: 7 });
+    assert_eq!(store(1, 8192, 4096), 0);
+    assert_eq!(store(0, 8192, 4096), 9);
+    assert_eq!(store(1, 8191, 2), 8);
+    assert_eq!(store(1, 8192, 0), 6);
+}
+
+#[test]
+fn edges_of_configuration_space() {
+    let mut bench = Bench::new(four_peers(4), &[0]);
+    for (offset, width, number) in [(255, 1, 0), (254, 4, 7), (256, 4, 8)] {
+        assert_eq!(bench.number(Call::ConfigurationRead { id: 0, offset, width }), number);
+    }
+}
+
+#[test]
+fn whole_list() {
+    let mut bench = Bench::new(four_peers(2), &[0, 1, 3]);
+    bench.switch_on(0, 0x40);
+    bench.switch_on(3, 0x43);
+    bench.write(3, 0x43, 1, 1);
+    bench.write(1, 0x04, 2, 0x0002);
+
+    let to = |id, payload| Delivery { target: PeerId(id), vector: Vector(0), address: 0xfee0_0000, payload };
+    assert_eq!(bench.register(1, 0x10, 5), [to(0, 0x40), to(3, 0x43)]);
+    assert_eq!(bench.0.world().region()[4..8], [5, 0, 0, 0]);
+    assert_eq!(bench.answer(Call::RegisterRead { id: 3, offset: 0x08, width: 4 }).value, 0);
+    assert_eq!(bench.register(1, 0x10, 5), [to(0, 0x40)]);
+}
+
+#[test]
+fn numbers_accepted_at_set_up() {
+    let good = four_peers(4);
+    let number = |settings: Settings| Bench(Pair::new(Library)).number(Call::SetUp(settings));
+    for (peers, expected) in [(1, 1), (2, 0), (8, 0), (9, 1)] {
+        assert_eq!(number(Settings { peers, ..good }), expected);
+    }
+    for (vectors, expected) in [(0, 1), (1, 0), (4, 0), (5, 1)] {
+        assert_eq!(number(Settings { vectors, ..good }), expected);
+    }
+    for (state_table, expected) in [(0, 1), (4096, 0), (4100, 1)] {
+        assert_eq!(number(Settings { state_table, ..good }), expected);
+    }
+    // The region that is lent is not so long: 2 where the numbers are taken, 1 where they are not.
+    for (read_write, expected) in [((1 << 30) - 4096, 2), (1 << 30, 1)] {
+        assert_eq!(number(Settings { read_write, ..good }), expected);
+    }
+    let last = u64::MAX - 4095;
+    for (base, state_table, expected) in [(last, 4096, 0), (last, 8192, 1), (1, 4096, 1)] {
+        assert_eq!(number(Settings { base, state_table, ..good }), expected);
+    }
+}
+
+#[test]
+fn the_order_of_refusals() {
+    let lengths = |words, region, records| Lengths { words, region, records };
+    let bad_write = Call::RegisterWrite { id: 9, offset: 4097, width: 8, value: 0 };
+    let mut bench = Bench::new(four_peers(4), &[0]);
+    for (wrong, number) in
+        [(lengths(201, -1, 3), 10), (lengths(202, -1, 3), 2), (lengths(202, 0, 3), 11), (lengths(202, 0, 4), 3)]
+    {
+        assert_eq!(bench.answer(Event::Call(bad_write.clone(), wrong)).number, number);
+    }
+    for (id, offset, width, number) in
+        [(1, 4097, 8, 4), (0, 4097, 8, 6), (0, 4097, 4, 7), (0, 4096, 4, 8), (0, 0, 4, 0)]
+    {
+        assert_eq!(bench.number(Call::RegisterWrite { id, offset, width, value: 0 }), number);
+    }
+}
+
+/// The largest region there is; it takes a gigabyte.
+#[test]
+#[ignore = "takes a gigabyte of memory"]
+fn largest_region() {
+    let mut region = vec![0xa5; 1 << 30];
+    let settings = Settings { read_write: (1 << 30) - 4096, ..four_peers(4) };
+    let hub = ivshmem::Hub::set_up(&settings, &mut region);
+    assert!(hub.is_ok() && region.iter().all(|&byte| byte == 0));
+}

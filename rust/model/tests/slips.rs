@@ -1,0 +1,221 @@
+//! Wrong models, each with one slip that prototypes are known to make: the harness must find every one and cut the history
+//! short.
+
+use std::collections::HashMap;
+
+use ivshmem::Section;
+use model::call::Call;
+use model::compare::{self, Failure};
+use model::hub::{Block, Hub, Ring};
+use model::layout::{decode, encode};
+use model::subject::{Answer, Lent, Model, Subject};
+
+/// A model and what goes wrong with it.
+struct Wrong<F> {
+    model: Model,
+    slip: F,
+}
+
+impl<F: FnMut(&mut Model, &Call, Lent<'_>) -> Answer> Subject for Wrong<F> {
+    fn perform(&mut self, call: &Call, lent: Lent<'_>) -> Answer {
+        (self.slip)(&mut self.model, call, lent)
+    }
+}
+
+fn again<'a>(lent: &'a mut Lent<'_>) -> Lent<'a> {
+    Lent { words: lent.words, region: lent.region, table: lent.table, buffer: lent.buffer }
+}
+
+/// The right answer, then a change to the hub.
+fn right_then(
+    model: &mut Model,
+    call: &Call,
+    mut lent: Lent<'_>,
+    change: impl FnOnce(&mut Hub, &[Ring], &Answer),
+) -> Answer {
+    let answer = model.perform(call, again(&mut lent));
+    if let Some(mut hub) = decode(lent.words) {
+        change(&mut hub, &model.rings, &answer);
+        lent.words.copy_from_slice(&encode(&hub));
+    }
+    answer
+}
+
+/// Runs until the slip shows, prints what is left of the history and checks that it is short.
+fn is_found<F, M>(name: &str, longest: usize, make: M)
+where
+    F: FnMut(&mut Model, &Call, Lent<'_>) -> Answer,
+    M: Fn() -> F,
+{
+    let subject = || Wrong { model: Model::default(), slip: make() };
+    let failure: Failure = compare::run(subject, 3, 200_000).expect_err(name);
+    println!("{name}: {failure}\n");
+    assert!(failure.events.len() <= longest, "{name}: {failure}");
+    assert!(compare::replay(subject(), &failure.events).is_some(), "{name}: the cut history fails by itself");
+}
+
+#[test]
+fn clears_the_senders_bit() {
+    is_found("one-shot clears the sender's bit", 10, || {
+        |model: &mut Model, call: &Call, lent: Lent<'_>| {
+            right_then(model, call, lent, |hub, rings, _| {
+                let (Call::RegisterWrite { id, .. }, [Ring::Delivered(delivery, true)]) = (call, rings) else { return };
+                hub.peers[delivery.target.0 as usize].interrupt = 1;
+                hub.peers[*id as usize].interrupt = 0;
+            })
+        }
+    });
+}
+
+#[test]
+fn clears_one_shot_when_masked() {
+    is_found("a masked ring clears one-shot", 9, || {
+        |model: &mut Model, call: &Call, lent: Lent<'_>| {
+            right_then(model, call, lent, |hub, rings, _| {
+                let (Call::RegisterWrite { offset: 0x0c, value, .. }, [Ring::Lost(blocks)]) = (call, rings) else {
+                    return;
+                };
+                if *blocks == [Block::EntryMasked] {
+                    let target = &mut hub.peers[(value >> 16) as usize];
+                    target.interrupt &= !target.privileged;
+                }
+            })
+        }
+    });
+}
+
+#[test]
+fn keeps_a_masked_ring_pending() {
+    is_found("a masked ring stays pending", 10, || {
+        let mut pending = Vec::new();
+        move |model: &mut Model, call: &Call, mut lent: Lent<'_>| {
+            let mut answer = model.perform(call, again(&mut lent));
+            let (Call::RegisterWrite { offset, value, .. }, 0) = (call, answer.number) else { return answer };
+            let hub = decode(lent.words).expect("an accepted call has a hub");
+            pending.retain(|&(target, vector)| {
+                let sent = hub.blocks(target, vector).is_empty() && answer.count < lent.table.len();
+                if sent {
+                    lent.table[answer.count].target.0 = target as u32;
+                    answer.count += 1;
+                }
+                !sent
+            });
+            let masked = matches!(&model.rings[..], [Ring::Lost(blocks)] if *blocks == [Block::EntryMasked]);
+            if *offset == 0x0c && masked {
+                pending.push((u64::from(value >> 16), u64::from(value & 0xffff)));
+            }
+            answer
+        }
+    });
+}
+
+#[test]
+fn tests_only_the_first_byte() {
+    is_found("only a store's first byte is tested", 4, || {
+        |model: &mut Model, call: &Call, mut lent: Lent<'_>| {
+            let answer = model.perform(call, again(&mut lent));
+            let (Call::Store { id, offset, length, .. }, 8) = (call, answer.number) else { return answer };
+            let hub = decode(lent.words).expect("a call refused with 8 has a hub");
+            let may_store = match hub.section_of(*offset, 1) {
+                Some(Section::ReadWrite) => true,
+                Some(Section::Output(owner)) => u64::from(owner.0) == *id,
+                _ => false,
+            };
+            match lent.region.get_mut(*offset as usize..).and_then(|rest| rest.get_mut(..*length)) {
+                Some(range) if may_store => {
+                    range.copy_from_slice(lent.buffer);
+                    Answer::default()
+                }
+                _ => answer,
+            }
+        }
+    });
+}
+
+#[test]
+fn overwrites_the_capability() {
+    is_found("a 4-byte write at 40h overwrites the capability", 4, || {
+        let mut written = HashMap::new();
+        move |model: &mut Model, call: &Call, lent: Lent<'_>| {
+            let mut answer = model.perform(call, lent);
+            match *call {
+                Call::ConfigurationWrite { id, offset: 0x40, width: 4, value } if answer.number == 0 => {
+                    written.insert(id, value);
+                }
+                Call::ConfigurationRead { id, offset: 0x40, width: 4 } if answer.number == 0 => {
+                    answer.value = written.get(&id).copied().unwrap_or(answer.value);
+                }
+                _ => {}
+            }
+            answer
+        }
+    });
+}
+
+#[test]
+fn touches_a_later_record() {
+    is_found("a record behind the count is written", 9, || {
+        |model: &mut Model, call: &Call, mut lent: Lent<'_>| {
+            let answer = model.perform(call, again(&mut lent));
+            if let Some(record) = lent.table.get_mut(answer.count).filter(|_| answer.count > 0) {
+                record.payload = 0;
+            }
+            answer
+        }
+    });
+}
+
+#[test]
+fn writes_the_buffer_when_refused() {
+    is_found("a refused load writes its buffer", 3, || {
+        |model: &mut Model, call: &Call, mut lent: Lent<'_>| {
+            let answer = model.perform(call, again(&mut lent));
+            if let (Call::Load { .. }, 8, Some(byte)) = (call, answer.number, lent.buffer.last_mut()) {
+                *byte = 0;
+            }
+            answer
+        }
+    });
+}
+
+#[test]
+fn leaves_the_table_entry_at_reset() {
+    is_found("reset leaves the State Table entry", 5, || {
+        |model: &mut Model, call: &Call, mut lent: Lent<'_>| {
+            let before = lent.region.to_vec();
+            let answer = model.perform(call, again(&mut lent));
+            if let Call::Reset { .. } = call {
+                lent.region.copy_from_slice(&before);
+            }
+            answer
+        }
+    });
+}
+
+#[test]
+fn refuses_in_another_order() {
+    is_found("a short table is refused before a wrong region", 2, || {
+        |model: &mut Model, call: &Call, mut lent: Lent<'_>| {
+            let mut answer = model.perform(call, again(&mut lent));
+            let rings = matches!(call, Call::RegisterWrite { .. } | Call::Reset { .. } | Call::Disconnect { .. });
+            let peers = decode(lent.words).map_or(0, |hub| hub.numbers.peers as usize);
+            if rings && answer.number == 2 && lent.table.len() < peers {
+                answer.number = 11;
+            }
+            answer
+        }
+    });
+}
+
+#[test]
+fn loses_the_high_half_of_an_offset() {
+    is_found("an offset is cut to 32 bits", 3, || {
+        |model: &mut Model, call: &Call, lent: Lent<'_>| {
+            let mut cut = call.clone();
+            if let Call::MsixRead { offset, .. } | Call::Section { offset, .. } = &mut cut {
+                *offset &= 0xffff_ffff;
+            }
+            model.perform(&cut, lent)
+        }
+    });
+}
