@@ -1,4 +1,4 @@
-//! The hub as the scope paper describes it, written for obviousness. Refusals are the paper's numbers.
+//! The hub as the rules describe it, written for obviousness. Refusals are the rules' numbers.
 
 use std::ops::RangeInclusive;
 
@@ -158,7 +158,7 @@ pub enum Ring {
     Lost(Vec<Block>),
 }
 
-/// The numbers of all refusals that apply to a call, in the paper's order: the first is the one given.
+/// The numbers of all refusals that apply to a call, in the rules' order: the first is the one given.
 #[derive(Clone, Debug, PartialEq, Eq)]
 pub struct Refused(pub Vec<u32>);
 
@@ -247,7 +247,7 @@ impl Hub {
             })
     }
 
-    /// "When the hub says no": all refusals that apply, in the paper's order. 1 belongs to set-up alone.
+    /// "When the hub says no": all refusals that apply, in the rules' order. 1 belongs to set-up alone.
     fn refuse(&self, request: &Request) -> Result<(), Refused> {
         let Request { region, records, id, connect, .. } = *request;
         let exists = id < self.numbers.peers;
@@ -504,7 +504,7 @@ impl Hub {
         blocks
     }
 
-    /// "One bolt": deliver, then clear the target's Interrupt Control if it is one-shot; or change nothing.
+    /// One ring: deliver, then clear the target's Interrupt Control if it is one-shot; or change nothing.
     fn ring(&mut self, target: u64, vector: u64) -> Ring {
         let blocks = self.blocks(target, vector);
         if !blocks.is_empty() {

@@ -1,4 +1,4 @@
-//! Where the library keeps what in a hub's words. This is a fact of the library and no rule of the paper: the settings, then
+//! Where the library keeps what in a hub's words. This is a fact of the library and no rule of the device: the settings, then
 //! eight words for each peer, then the MSI-X entries in four columns (all low address words, all high ones, all data, all
 //! control).
 //!

@@ -1,6 +1,6 @@
 //! An independent model of the ivshmem v2 hub, and what is needed to compare the linked library with it.
 //!
-//! [`hub`] is the model, written from the scope paper alone. [`layout`] says which hub the library's words are. The rest is the
+//! [`hub`] is the model, written from the rules alone. [`layout`] says which hub the library's words are. The rest is the
 //! comparison: [`call`] histories, made by [`generate`], run on two [`subject`]s by [`compare`], cut short by [`shrink`] where
 //! they differ, and counted by [`count`].
 

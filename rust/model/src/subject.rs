@@ -98,7 +98,7 @@ impl Subject for Model {
         self.rings.clear();
         self.also.clear();
         let Some(mut hub) = decode(lent.words) else {
-            // Words of another length are no hub, whatever they hold. The paper's "all-zero hub" of a refused set-up is read as
+            // Words of another length are no hub, whatever they hold. The rules' "all-zero hub" of a refused set-up is read as
             // what 1 and 2 leave: where the words can't hold a hub they stay as they were, as with every other refusal.
             return self.refused(Refused(vec![10]));
         };

@@ -1,4 +1,4 @@
-//! The cases of the scope paper's bench, on the model and the library at once.
+//! The cases of the rules' bench, on the model and the library at once.
 
 use ivshmem::{Delivery, PeerId, Settings, Vector};
 use model::call::{Call, Event, Lengths};
