@@ -7,7 +7,6 @@ use native.Mathlib.Omega.{arith}
 use lib.ListN.{length, getD, take, drop, set, length-append, length-drop, length-take}
 use lib.Seq.{length-take-le, take-suc, drop-cons, set-at, append-snoc}
 use Rattle.device.specs.declared.Delivery.{Delivery}
-use Rattle.device.specs.Sizes.{maxPeers}
 use Rattle.deliveries.specs.declared.Deliveries.{Deliveries}
 use Rattle.deliveries.specs.Listed.{listed, handedOut, noDelivery}
 
@@ -37,7 +36,6 @@ count-fits d e =
 pub record Fits (list : Deliveries) (table : List Delivery) : Type 0 where
   pub counted : list .count ≡ length (listed list)
   pub few : list .count ≤ length (list .records)
-  pub most : list .count ≤ maxPeers
   pub room : list .count ≤ length table
 
 pub filled-all : (d : Deliveries) (table : List Delivery) → d .count ≡ length (listed d) → filled (d .records) table (d .count) ≡ handedOut (listed d) table

@@ -1,2 +1,3 @@
+pub mod ArrayParts
 pub mod HandedOut
 pub mod ListedLaws

@@ -6,12 +6,11 @@ use gate::RingOutcome;
 ghost use mathlib.Core.Path.{_≡_};
 ghost use Prim.Native.Nat.{_<_, _≤_};
 ghost use mathlib.Core.List.{[]};
-ghost use lib.ListN.{length, getD};
+ghost use lib.ListN.{length};
 ghost use Rattle.device.specs.Ring;
-ghost use Rattle.device.specs.Sizes.{maxPeers};
 ghost use Rattle.words.specs.Layout.{hubOf};
 ghost use Rattle.gate.specs.RingOutcome.{outcomeList, Usable};
-ghost use Rattle.deliveries.specs.Listed.{listed, Empty, ringBut, noDelivery, handedOut};
+ghost use Rattle.deliveries.specs.Listed.{listed, Empty, ringBut, handedOut};
 
 // A call rings each id at most once.
 pub struct Deliveries {
@@ -97,14 +96,6 @@ pub fn ring_others(hub: &mut [u32], who: u64) -> Deliveries
     list
 }
 
-// The record of the list at an index.
-fn record_at(list: Deliveries, i: usize) -> Delivery
-    requires { ⌜ i < maxPeers ⌝ }
-    ensures { λ r. ⌜ r ≡ getD (list .records) i noDelivery ⌝ }
-{
-    list.records[i]
-}
-
 // The deliveries written over the lent table from the front, and their count. The later records stay.
 pub fn hand_out(table: &mut [Delivery], list: Deliveries) -> usize
     requires { ⌜ (list .count ≡ length (listed list)) × (list .count ≤ length (now table)) ⌝ }
@@ -113,7 +104,7 @@ pub fn hand_out(table: &mut [Delivery], list: Deliveries) -> usize
     let n = list.count;
     let mut i: usize = 0;
     while i < n {
-        table[i] = record_at(list, i);
+        table[i] = list.records[i];
         i += 1;
     }
     n
