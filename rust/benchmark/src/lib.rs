@@ -6,13 +6,13 @@
 
 #![deny(unsafe_code)]
 
-
+pub mod cases;
 pub mod device;
-
-
+pub mod measure;
+pub mod report;
 pub mod rules;
 pub mod soundness;
-
-
+#[allow(unsafe_code)]
+pub mod stack;
 pub mod state;
 pub mod yardstick;
