@@ -169,11 +169,16 @@ pub fn accepted() -> Vec<Case> {
         case("MSI-X read", |k| Call::MsixRead { id: peer(k), offset: 4 * k, width: 4 }),
         case("MSI-X write", |k| Call::MsixWrite { id: peer(k), offset: 4 * k, width: 4, value: 16 * k as u32 }),
         case("section question", |k| Call::Section { id: peer(k), offset: shared_offset(peer(k + 1), k), length: 64 }),
-        case("load, 64 bytes", |k| {
-            Call::Load { id: peer(k), offset: shared_offset(peer(k + 1), k), length: SHARED_BYTES }
+        case("load, 64 bytes", |k| Call::Load {
+            id: peer(k),
+            offset: shared_offset(peer(k + 1), k),
+            length: SHARED_BYTES,
         }),
-        case("store, 64 bytes", |k| {
-            Call::Store { id: peer(k), offset: shared_offset(peer(k), k), length: SHARED_BYTES, fill: 0 }
+        case("store, 64 bytes", |k| Call::Store {
+            id: peer(k),
+            offset: shared_offset(peer(k), k),
+            length: SHARED_BYTES,
+            fill: 0,
         }),
     ]
 }
@@ -183,8 +188,11 @@ pub fn rings() -> Vec<Case> {
     let most = settings(PEERS);
     let few = Case {
         hubs: vec![booted(&most, |id| id == 5); ROUND],
-        ..Case::new("State store, 1 of 7 others delivered", &most, |k| {
-            Call::RegisterWrite { id: k % 5, offset: register::STATE, width: 4, value: k as u32 + 1 }
+        ..Case::new("State store, 1 of 7 others delivered", &most, |k| Call::RegisterWrite {
+            id: k % 5,
+            offset: register::STATE,
+            width: 4,
+            value: k as u32 + 1,
         })
     };
     let mut cases = vec![
@@ -206,17 +214,23 @@ pub fn refused() -> Vec<Case> {
     let case = |name: &str, make: fn(u64) -> Call| Case::new(name, &most, make);
     let gone = |name: &str, make: fn(u64) -> Call| case(name, make).after(|k| Call::Disconnect { id: peer(k) });
     vec![
-        case("check 10 and the id test alone (register read)", |k| {
-            Call::RegisterRead { id: PEERS + k, offset: register::ID, width: 4 }
+        case("check 10 and the id test alone (register read)", |k| Call::RegisterRead {
+            id: PEERS + k,
+            offset: register::ID,
+            width: 4,
         })
         .refused(3),
         case("set up", |k| Call::SetUp(Settings { base: 1 + k, ..settings(PEERS) })).refused(1),
         case("connect", |k| Call::Connect { id: peer(k) }).refused(5),
         gone("disconnect", |k| Call::Disconnect { id: peer(k) }).refused(4),
         gone("reset", |k| Call::Reset { id: peer(k) }).refused(4),
-        case("configuration read", |k| Call::ConfigurationRead { id: peer(k), offset: 256 + 4 * k, width: 4 }).refused(8),
-        case("configuration write", |k| {
-            Call::ConfigurationWrite { id: peer(k), offset: 256 + 4 * k, width: 4, value: 0 }
+        case("configuration read", |k| Call::ConfigurationRead { id: peer(k), offset: 256 + 4 * k, width: 4 })
+            .refused(8),
+        case("configuration write", |k| Call::ConfigurationWrite {
+            id: peer(k),
+            offset: 256 + 4 * k,
+            width: 4,
+            value: 0,
         })
         .refused(8),
         case("register read", |k| Call::RegisterRead { id: peer(k), offset: PAGE + 4 * k, width: 4 }).refused(8),
@@ -225,8 +239,11 @@ pub fn refused() -> Vec<Case> {
         case("MSI-X write", |k| Call::MsixWrite { id: peer(k), offset: PAGE + 4 * k, width: 4, value: 0 }).refused(8),
         case("section question", |k| Call::Section { id: peer(k), offset: 2 * PAGE - 8 - k, length: 64 }).refused(8),
         case("load", |k| Call::Load { id: peer(k), offset: 2 * PAGE - 8 - k, length: SHARED_BYTES }).refused(8),
-        case("store", |k| {
-            Call::Store { id: peer(k), offset: 2 * PAGE + peer(k + 1) * PAGE, length: SHARED_BYTES, fill: 0 }
+        case("store", |k| Call::Store {
+            id: peer(k),
+            offset: 2 * PAGE + peer(k + 1) * PAGE,
+            length: SHARED_BYTES,
+            fill: 0,
         })
         .refused(9),
     ]

@@ -27,13 +27,20 @@ fn main() -> ExitCode {
 fn print_times(style: Style) {
     let cases: Vec<_> = [cases::accepted(), cases::rings(), cases::refused()].into_iter().flatten().collect();
     let mut table = Table::new(&[&["call", "calls per sample", "ns per call"], &YARDSTICKS[..]].concat());
+    let mut spreads = Vec::new();
     for row in measure_all(&cases) {
         let mut cells = vec![row.name, row.calls.to_string(), format!("{:.0}", row.figures.nanoseconds)];
         cells.extend(row.figures.ratios.map(|ratio| format!("{ratio:.2}")));
         table.add(cells);
+        spreads.push(100.0 * row.spread);
     }
-    println!("Library time / yardstick time, check 10 in every call but set up; medians of {PASSES}.\n");
+    println!("Library time / yardstick time, check 10 in every call but set up; medians of {PASSES} passes.\n");
     table.print(style);
+    spreads.sort_by(f64::total_cmp);
+    let (middle, most) = (spreads[spreads.len() / 2], spreads[spreads.len() - 1]);
+    println!(
+        "Between the passes a row's ratios differ by {middle:.0} % (median of the rows), {most:.0} % at the most.\n"
+    );
 }
 
 fn print_memory(style: Style) {

@@ -17,10 +17,13 @@ pub const YARDSTICKS: [&str; 3] = ["plain", "words, early exit", "words, accumul
 
 /// How often everything is measured; the table shows medians.
 pub const PASSES: usize = 5;
-/// A measurement is the median of so many pieces.
-const PIECES: usize = 9;
+/// A call's time depends on where its frame stands in a cache line, so a measurement is the mean over these distances of the
+/// stack from its usual place, and for each of them the median of so many pieces.
+const POSITIONS: [fn(&mut dyn FnMut() -> Duration) -> Duration; 4] =
+    [lowered::<16>, lowered::<32>, lowered::<48>, lowered::<64>];
+const PIECES: usize = 5;
 /// How long a piece takes at the library's speed.
-const PIECE: Duration = Duration::from_millis(1);
+const PIECE: Duration = Duration::from_micros(500);
 
 /// The library's time for a call, and its ratio to each yardstick's.
 #[derive(Clone, Copy)]
@@ -35,6 +38,29 @@ pub struct Row {
     /// Calls of one measurement.
     pub calls: usize,
     pub figures: Figures,
+    /// How far the passes lie apart: the largest difference between two ratios to one yardstick, by their median.
+    pub spread: f64,
+}
+
+impl Row {
+    fn new(case: &Case, rounds: u32, passes: &[Figures]) -> Row {
+        let ratios = |yardstick: usize| passes.iter().map(|pass| pass.ratios[yardstick]).collect::<Vec<_>>();
+        let figures = Figures {
+            nanoseconds: median(passes.iter().map(|pass| pass.nanoseconds).collect()),
+            ratios: std::array::from_fn(|yardstick| median(ratios(yardstick))),
+        };
+        let spread = |yardstick: usize| {
+            let all = ratios(yardstick);
+            let (least, most) = all.iter().fold((f64::MAX, 0.0), |(l, m), &r| (r.min(l), r.max(m)));
+            (most - least) / figures.ratios[yardstick]
+        };
+        Row {
+            name: case.name.clone(),
+            calls: rounds as usize * ROUND * PIECES * POSITIONS.len(),
+            figures,
+            spread: (0..YARDSTICKS.len()).map(spread).fold(0.0, f64::max),
+        }
+    }
 }
 
 /// The memory that a device works on, and what it has left in it.
@@ -143,11 +169,20 @@ fn check(case: &Case) {
 
 /// How many rounds the library makes in one piece.
 fn rounds(case: &Case) -> u32 {
-    const TRIAL: u32 = 200;
+    const TRIAL: u32 = 100;
     let mut bench = Bench::<Library>::new(case);
-    bench.time(case, TRIAL);
-    let round = bench.time(case, TRIAL) / TRIAL;
-    (PIECE.as_nanos() / round.as_nanos().max(1)).max(1) as u32
+    // The shortest trial is one in which nothing else ran.
+    let trial = (0..8).map(|_| bench.time(case, TRIAL)).min().unwrap_or_default();
+    (PIECE.as_nanos() * u128::from(TRIAL) / trial.as_nanos().max(1)).max(1) as u32
+}
+
+/// Does the work with the stack so many bytes lower.
+#[inline(never)]
+fn lowered<const BYTES: usize>(work: &mut dyn FnMut() -> Duration) -> Duration {
+    let room = black_box([0u8; BYTES]);
+    let taken = work();
+    black_box(&room);
+    taken
 }
 
 fn median(mut values: Vec<f64>) -> f64 {
@@ -160,15 +195,21 @@ fn measure(case: &Case, rounds: u32) -> Figures {
     for bench in &mut benches {
         bench.time(case, 1 + rounds / 4);
     }
-    let mut pieces = benches.each_ref().map(|_| Vec::new());
-    for _ in 0..PIECES {
-        for (bench, pieces) in benches.iter_mut().zip(&mut pieces) {
-            pieces.push(bench.time(case, rounds).as_nanos() as f64);
+    let mut sums = [0.0; 1 + YARDSTICKS.len()];
+    for position in POSITIONS {
+        let mut pieces = benches.each_ref().map(|_| Vec::new());
+        for _ in 0..PIECES {
+            for (bench, pieces) in benches.iter_mut().zip(&mut pieces) {
+                pieces.push(position(&mut || bench.time(case, rounds)).as_nanos() as f64);
+            }
+        }
+        for (sum, pieces) in sums.iter_mut().zip(pieces) {
+            *sum += median(pieces);
         }
     }
-    let [library, yardsticks @ ..] = pieces.map(median);
+    let [library, yardsticks @ ..] = sums;
     Figures {
-        nanoseconds: library / f64::from(rounds) / ROUND as f64,
+        nanoseconds: library / f64::from(rounds) / (ROUND * POSITIONS.len()) as f64,
         ratios: yardsticks.map(|yardstick| library / yardstick),
     }
 }
@@ -184,13 +225,6 @@ pub fn measure_all(cases: &[Case]) -> Vec<Row> {
             figures.push(measure(case, *rounds));
         }
     }
-    let row = |((case, rounds), figures): ((&Case, &u32), &Vec<Figures>)| Row {
-        name: case.name.clone(),
-        calls: *rounds as usize * ROUND * PIECES,
-        figures: Figures {
-            nanoseconds: median(figures.iter().map(|f| f.nanoseconds).collect()),
-            ratios: std::array::from_fn(|y| median(figures.iter().map(|f| f.ratios[y]).collect())),
-        },
-    };
-    cases.iter().zip(&rounds).zip(&figures).map(row).collect()
+    let passes = cases.iter().zip(&rounds).zip(&figures);
+    passes.map(|((case, rounds), passes)| Row::new(case, *rounds, passes)).collect()
 }

@@ -67,30 +67,37 @@ impl Plain {
 }
 
 impl State for Plain {
+    #[inline(always)]
     fn numbers(&self) -> Numbers {
         self.numbers
     }
 
+    #[inline(always)]
     fn put_numbers(&mut self, numbers: &Numbers) {
         self.numbers = *numbers;
     }
 
+    #[inline(always)]
     fn registers(&self, id: usize) -> Registers {
         self.peers[id].registers
     }
 
+    #[inline(always)]
     fn put_registers(&mut self, id: usize, registers: &Registers) {
         self.peers[id].registers = *registers;
     }
 
+    #[inline(always)]
     fn entry(&self, id: usize, vector: usize) -> Entry {
         self.peers[id].entries[vector]
     }
 
+    #[inline(always)]
     fn put_entry(&mut self, id: usize, vector: usize, entry: &Entry) {
         self.peers[id].entries[vector] = *entry;
     }
 
+    #[inline(always)]
     fn clear(&mut self) {
         *self = Plain::zero();
     }
@@ -149,6 +156,7 @@ pub const ENTRIES_AT: usize = PEERS_AT + PEER_WORDS * MAX_PEERS;
 pub const COLUMN: usize = MAX_PEERS * MAX_VECTORS;
 
 impl State for [u32; HUB_WORDS] {
+    #[inline(always)]
     fn numbers(&self) -> Numbers {
         Numbers {
             peers: self[0].into(),
@@ -163,6 +171,7 @@ impl State for [u32; HUB_WORDS] {
         }
     }
 
+    #[inline(always)]
     fn put_numbers(&mut self, n: &Numbers) {
         let sizes = [n.peers, n.vectors, n.state_table, n.read_write, n.output];
         let rest = [n.base, n.base >> 32, n.protocol, n.subsystem_vendor, n.subsystem];
@@ -171,6 +180,7 @@ impl State for [u32; HUB_WORDS] {
         }
     }
 
+    #[inline(always)]
     fn registers(&self, id: usize) -> Registers {
         let row = &self[PEERS_AT + PEER_WORDS * id..][..PEER_WORDS];
         Registers {
@@ -185,16 +195,19 @@ impl State for [u32; HUB_WORDS] {
         }
     }
 
+    #[inline(always)]
     fn put_registers(&mut self, id: usize, r: &Registers) {
         let row = [r.connected, r.command, r.bar0, r.bar1, r.privileged, r.message, r.interrupt, r.state];
         self[PEERS_AT + PEER_WORDS * id..][..PEER_WORDS].copy_from_slice(&row);
     }
 
+    #[inline(always)]
     fn entry(&self, id: usize, vector: usize) -> Entry {
         let at = ENTRIES_AT + id * MAX_VECTORS + vector;
         Entry { low: self[at], high: self[at + COLUMN], data: self[at + 2 * COLUMN], control: self[at + 3 * COLUMN] }
     }
 
+    #[inline(always)]
     fn put_entry(&mut self, id: usize, vector: usize, entry: &Entry) {
         let at = ENTRIES_AT + id * MAX_VECTORS + vector;
         self[at] = entry.low;
@@ -203,6 +216,17 @@ impl State for [u32; HUB_WORDS] {
         self[at + 3 * COLUMN] = entry.control;
     }
 
+    #[inline(always)]
+    fn reset(&mut self, id: usize, connected: u32) {
+        let row = &mut self[PEERS_AT + PEER_WORDS * id..][..PEER_WORDS];
+        row.fill(0);
+        row[0] = connected;
+        for (column, reset) in [0, 0, 0, 1].into_iter().enumerate() {
+            self[ENTRIES_AT + column * COLUMN + id * MAX_VECTORS..][..MAX_VECTORS].fill(reset);
+        }
+    }
+
+    #[inline(always)]
     fn clear(&mut self) {
         *self = [0; HUB_WORDS];
     }

@@ -184,13 +184,7 @@ impl<F: Form + ?Sized, T: Soundness<F::State>> Yardstick<F, T> {
 }
 
 /// Vector 0 of every other peer is rung, once the State Table has the value; answers the count of deliveries.
-fn announce(
-    hub: &mut impl State,
-    region: &mut [u8],
-    table: &mut [Delivery],
-    caller: &Caller,
-    value: u32,
-) -> usize {
+fn announce(hub: &mut impl State, region: &mut [u8], table: &mut [Delivery], caller: &Caller, value: u32) -> usize {
     region[4 * caller.id..][..4].copy_from_slice(&value.to_le_bytes());
     let mut count = 0;
     for target in 0..caller.numbers.peers as u32 {
@@ -205,6 +199,7 @@ fn announce(
     count
 }
 
+#[inline(always)]
 fn ring(hub: &mut impl State, numbers: &Numbers, target: u32, vector: u32) -> Option<Delivery> {
     if u64::from(target) >= numbers.peers || u64::from(vector) >= numbers.vectors {
         return None;
