@@ -17,13 +17,18 @@ pub const YARDSTICKS: [&str; 3] = ["plain", "words, early exit", "words, accumul
 
 /// How often everything is measured; the table shows medians.
 pub const PASSES: usize = 5;
-/// A call's time depends on where its frame stands in a cache line, so a measurement is the mean over these distances of the
-/// stack from its usual place, and for each of them the median of so many pieces.
-const POSITIONS: [fn(&mut dyn FnMut() -> Duration) -> Duration; 4] =
-    [lowered::<16>, lowered::<32>, lowered::<48>, lowered::<64>];
-const PIECES: usize = 5;
+/// How far the stack is lowered. A call's time depends on where its frames stand in cache lines and pages, so a measurement is
+/// the mean over these, which are spread over a page and over all places in a line; for each the median of so many pieces.
+#[rustfmt::skip]
+const POSITIONS: [fn(&mut dyn FnMut() -> Duration) -> Duration; 16] = [
+    lowered::<16>, lowered::<288>, lowered::<560>, lowered::<832>,
+    lowered::<1104>, lowered::<1376>, lowered::<1648>, lowered::<1920>,
+    lowered::<2192>, lowered::<2464>, lowered::<2736>, lowered::<3008>,
+    lowered::<3280>, lowered::<3552>, lowered::<3824>, lowered::<4096>,
+];
+const PIECES: usize = 3;
 /// How long a piece takes at the library's speed.
-const PIECE: Duration = Duration::from_micros(500);
+const PIECE: Duration = Duration::from_micros(250);
 
 /// The library's time for a call, and its ratio to each yardstick's.
 #[derive(Clone, Copy)]
