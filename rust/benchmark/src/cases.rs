@@ -117,20 +117,24 @@ fn one_of(choices: &[u64], k: u64) -> u64 {
     choices[k as usize % choices.len()]
 }
 
-fn register_write(k: u64, offset: u64, value: u32) -> Call {
-    Call::RegisterWrite { id: peer(k), offset, width: 4, value }
-}
-
-fn state_store(k: u64) -> Call {
-    register_write(k, register::STATE, k as u32 + 1)
+fn register_write(id: u64, offset: u64, value: u32) -> Call {
+    Call::RegisterWrite { id, offset, width: 4, value }
 }
 
 fn doorbell(k: u64) -> Call {
     let target = register::doorbell(PeerId(peer(k + 1) as u32), Vector(k as u32 % MAX_VECTORS as u32));
-    register_write(k, register::DOORBELL, target)
+    register_write(peer(k), register::DOORBELL, target)
 }
 
-/// A range in the section of output that belongs to the peer `owner`, or in the common section.
+fn load(id: u64, offset: u64) -> Call {
+    Call::Load { id, offset, length: SHARED_BYTES }
+}
+
+fn store(id: u64, offset: u64) -> Call {
+    Call::Store { id, offset, length: SHARED_BYTES, fill: 0 }
+}
+
+/// In turn in the common section and in the output section of `owner`.
 fn shared_offset(owner: u64, k: u64) -> u64 {
     let start = if k.is_multiple_of(2) { PAGE } else { 2 * PAGE + owner * PAGE };
     start + 8 * k
@@ -165,45 +169,29 @@ pub fn accepted() -> Vec<Case> {
             let offset = one_of(&[register::ID, register::MAXIMUM_PEERS, register::STATE], k);
             Call::RegisterRead { id: peer(k), offset, width: 4 }
         }),
-        case("register write, Interrupt Control", |k| register_write(k, register::INTERRUPT_CONTROL, 1)),
+        case("register write, Interrupt Control", |k| register_write(peer(k), register::INTERRUPT_CONTROL, 1)),
         case("MSI-X read", |k| Call::MsixRead { id: peer(k), offset: 4 * k, width: 4 }),
         case("MSI-X write", |k| Call::MsixWrite { id: peer(k), offset: 4 * k, width: 4, value: 16 * k as u32 }),
         case("section question", |k| Call::Section { id: peer(k), offset: shared_offset(peer(k + 1), k), length: 64 }),
-        case("load, 64 bytes", |k| Call::Load {
-            id: peer(k),
-            offset: shared_offset(peer(k + 1), k),
-            length: SHARED_BYTES,
-        }),
-        case("store, 64 bytes", |k| Call::Store {
-            id: peer(k),
-            offset: shared_offset(peer(k), k),
-            length: SHARED_BYTES,
-            fill: 0,
-        }),
+        case("load, 64 bytes", |k| load(peer(k), shared_offset(peer(k + 1), k))),
+        case("store, 64 bytes", |k| store(peer(k), shared_offset(peer(k), k))),
     ]
 }
 
 /// The calls that ring, and how a State store grows with the peers.
 pub fn rings() -> Vec<Case> {
+    const RECEIVER: u64 = PEERS - 1;
     let most = settings(PEERS);
+    let state_store = |id, k| register_write(id, register::STATE, k as u32 + 1);
     let few = Case {
-        hubs: vec![booted(&most, |id| id == 5); ROUND],
-        ..Case::new("State store, 1 of 7 others delivered", &most, |k| Call::RegisterWrite {
-            id: k % 5,
-            offset: register::STATE,
-            width: 4,
-            value: k as u32 + 1,
-        })
+        hubs: vec![booted(&most, |id| id == RECEIVER); ROUND],
+        ..Case::new("State store at 8 peers, 1 of 7 delivered", &most, |k| state_store(k % RECEIVER, k))
     };
-    let mut cases = vec![
-        Case::new("doorbell, delivered", &most, doorbell).delivering(1),
-        few.delivering(1),
-        Case::new("State store, all 7 others delivered", &most, state_store).delivering(7),
-    ];
+    let mut cases = vec![Case::new("doorbell, delivered", &most, doorbell).delivering(1), few.delivering(1)];
     for peers in [2, 4, PEERS] {
-        let name = format!("growth: State store at {peers} peers, all delivered");
-        let store = |k| Call::RegisterWrite { id: k % peers, offset: register::STATE, width: 4, value: k as u32 + 1 };
-        cases.push(Case::new(&name, &settings(peers), store).delivering(peers as usize - 1));
+        let name = format!("State store at {peers} peers, all {} delivered", peers - 1);
+        let case = Case::new(&name, &settings(peers), |k| state_store(k % peers, k));
+        cases.push(case.delivering(peers as usize - 1));
     }
     cases
 }
@@ -213,38 +201,23 @@ pub fn refused() -> Vec<Case> {
     let most = settings(PEERS);
     let case = |name: &str, make: fn(u64) -> Call| Case::new(name, &most, make);
     let gone = |name: &str, make: fn(u64) -> Call| case(name, make).after(|k| Call::Disconnect { id: peer(k) });
+    // The id test is the first behind check 10.
+    let check_10 = |k| Call::RegisterRead { id: PEERS + k, offset: register::ID, width: 4 };
+    let write = |k| Call::ConfigurationWrite { id: peer(k), offset: 256 + 4 * k, width: 4, value: 0 };
     vec![
-        case("check 10 and the id test alone (register read)", |k| Call::RegisterRead {
-            id: PEERS + k,
-            offset: register::ID,
-            width: 4,
-        })
-        .refused(3),
+        case("check 10 alone (register read with a wrong id)", check_10).refused(3),
         case("set up", |k| Call::SetUp(Settings { base: 1 + k, ..settings(PEERS) })).refused(1),
         case("connect", |k| Call::Connect { id: peer(k) }).refused(5),
         gone("disconnect", |k| Call::Disconnect { id: peer(k) }).refused(4),
         gone("reset", |k| Call::Reset { id: peer(k) }).refused(4),
-        case("configuration read", |k| Call::ConfigurationRead { id: peer(k), offset: 256 + 4 * k, width: 4 })
-            .refused(8),
-        case("configuration write", |k| Call::ConfigurationWrite {
-            id: peer(k),
-            offset: 256 + 4 * k,
-            width: 4,
-            value: 0,
-        })
-        .refused(8),
+        case("configuration read", |k| Call::ConfigurationRead { id: peer(k), offset: 256 + k, width: 1 }).refused(8),
+        case("configuration write", write).refused(8),
         case("register read", |k| Call::RegisterRead { id: peer(k), offset: PAGE + 4 * k, width: 4 }).refused(8),
-        case("register write", |k| register_write(k, PAGE + 4 * k, 1)).refused(8),
+        case("register write", |k| register_write(peer(k), PAGE + 4 * k, 1)).refused(8),
         case("MSI-X read", |k| Call::MsixRead { id: peer(k), offset: PAGE + 4 * k, width: 4 }).refused(8),
         case("MSI-X write", |k| Call::MsixWrite { id: peer(k), offset: PAGE + 4 * k, width: 4, value: 0 }).refused(8),
         case("section question", |k| Call::Section { id: peer(k), offset: 2 * PAGE - 8 - k, length: 64 }).refused(8),
-        case("load", |k| Call::Load { id: peer(k), offset: 2 * PAGE - 8 - k, length: SHARED_BYTES }).refused(8),
-        case("store", |k| Call::Store {
-            id: peer(k),
-            offset: 2 * PAGE + peer(k + 1) * PAGE,
-            length: SHARED_BYTES,
-            fill: 0,
-        })
-        .refused(9),
+        case("load", |k| load(peer(k), 2 * PAGE - 8 - k)).refused(8),
+        case("store", |k| store(peer(k), 2 * PAGE + peer(k + 1) * PAGE)).refused(9),
     ]
 }

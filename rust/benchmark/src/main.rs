@@ -34,7 +34,7 @@ fn print_times(style: Style) {
         table.add(cells);
         spreads.push(100.0 * row.spread);
     }
-    println!("Library time / yardstick time, check 10 in every call but set up; medians of {PASSES} passes.\n");
+    println!("Library time / yardstick time; medians of {PASSES} passes. Check 10 is in every call but set up.\n");
     table.print(style);
     spreads.sort_by(f64::total_cmp);
     let (middle, most) = (spreads[spreads.len() / 2], spreads[spreads.len() - 1]);

@@ -17,16 +17,18 @@ pub const YARDSTICKS: [&str; 3] = ["plain", "words, early exit", "words, accumul
 
 /// How often everything is measured; the table shows medians.
 pub const PASSES: usize = 5;
+type Lowered = fn(&mut dyn FnMut() -> Duration) -> Duration;
+
 /// How far the stack is lowered. A call's time depends on where its frames stand in cache lines and pages, so a measurement is
 /// the mean over these, which are spread over a page and over all places in a line; for each the median of so many pieces.
 #[rustfmt::skip]
-const POSITIONS: [fn(&mut dyn FnMut() -> Duration) -> Duration; 16] = [
+const POSITIONS: [Lowered; 16] = [
     lowered::<16>, lowered::<288>, lowered::<560>, lowered::<832>,
     lowered::<1104>, lowered::<1376>, lowered::<1648>, lowered::<1920>,
     lowered::<2192>, lowered::<2464>, lowered::<2736>, lowered::<3008>,
     lowered::<3280>, lowered::<3552>, lowered::<3824>, lowered::<4096>,
 ];
-const PIECES: usize = 3;
+const PIECES: usize = 7;
 /// How long a piece takes at the library's speed.
 const PIECE: Duration = Duration::from_micros(250);
 

@@ -141,7 +141,7 @@ fn configuration_word(n: &Numbers, r: &Registers, at: u64) -> u32 {
     }
 }
 
-/// The bits of an aligned configuration word that an access of this width at this offset reaches, from bit 0 on.
+/// The bits that an access of this width reaches, from bit 0 on.
 fn width_bits(width: u64) -> u32 {
     u32::MAX >> (32 - 8 * width)
 }

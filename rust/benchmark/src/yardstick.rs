@@ -34,7 +34,6 @@ impl Caller {
 }
 
 /// Lengths of what the call is lent, where the rules look at them.
-#[derive(Default)]
 struct Lent {
     region: Option<usize>,
     records: Option<usize>,
