@@ -176,9 +176,9 @@ impl<F: Form + ?Sized, T: Soundness<F::State>> Yardstick<F, T> {
     }
 
     /// The section of a shared range, for a call that is lent the region or not.
-    fn place(hub: &F::State, lent: &Lent, id: u64, offset: u64, length: usize) -> Result<Section, u32> {
+    fn place(hub: &F::State, lent: &Lent, id: u64, offset: u64, length: u64) -> Result<Section, u32> {
         let caller = Self::admit(hub, lent, id)?;
-        rules::section(&caller.numbers, offset, length as u64)
+        rules::section(&caller.numbers, offset, length)
     }
 }
 
@@ -342,14 +342,14 @@ impl<F: Form + ?Sized, T: Soundness<F::State>> Device for Yardstick<F, T> {
 
     #[inline(never)]
     fn section(hub: &F, id: u64, offset: u64, length: u64) -> SectionReply {
-        let section = hub.state().and_then(|hub| Self::place(hub, &Lent::NOTHING, id, offset, length as usize));
+        let section = hub.state().and_then(|hub| Self::place(hub, &Lent::NOTHING, id, offset, length));
         section_reply(section, id)
     }
 
     #[inline(never)]
     fn load(hub: &F, region: &[u8], id: u64, offset: u64, buffer: &mut [u8]) -> Reply {
         reply(hub.state().and_then(|hub| {
-            Self::place(hub, &Lent::region(region), id, offset, buffer.len())?;
+            Self::place(hub, &Lent::region(region), id, offset, buffer.len() as u64)?;
             buffer.copy_from_slice(&region[offset as usize..][..buffer.len()]);
             Ok(0)
         }))
@@ -358,7 +358,7 @@ impl<F: Form + ?Sized, T: Soundness<F::State>> Device for Yardstick<F, T> {
     #[inline(never)]
     fn store(hub: &F, region: &mut [u8], id: u64, offset: u64, bytes: &[u8]) -> Reply {
         reply(hub.state().and_then(|hub| {
-            let section = Self::place(hub, &Lent::region(region), id, offset, bytes.len())?;
+            let section = Self::place(hub, &Lent::region(region), id, offset, bytes.len() as u64)?;
             if !rules::may_store(section, id) {
                 return Err(9);
             }
