@@ -1,0 +1,18 @@
+//! How fast the library's calls are, against the same work written in safe Rust.
+//!
+//! [`yardstick`] has the calls, once, over a [`state`] (an ordinary struct, or the library's words) and a [`soundness`] test;
+//! [`device`] puts the library and the yardsticks behind one trait. [`cases`] are the rows of the table, [`measure`] times them
+//! and [`report`] prints them; [`stack`] measures how deep the library's calls go.
+
+#![deny(unsafe_code)]
+
+pub mod cases;
+pub mod device;
+pub mod measure;
+pub mod report;
+pub mod rules;
+pub mod soundness;
+#[allow(unsafe_code)]
+pub mod stack;
+pub mod state;
+pub mod yardstick;

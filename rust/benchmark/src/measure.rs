@@ -1,0 +1,237 @@
+//! Times a case on the library and on the yardsticks, in turn and in short pieces, so that all see the same machine.
+
+use std::borrow::BorrowMut;
+use std::hint::black_box;
+use std::time::{Duration, Instant};
+
+use ivshmem::{Delivery, HUB_WORDS, MAX_PEERS};
+use model::subject::Answer;
+
+use crate::cases::{Case, ROUND, SHARED_BYTES};
+use crate::device::{Device, Lending, Library, perform};
+use crate::state::Form;
+use crate::yardstick::{PlainStruct, WordsAccumulating, WordsEarlyExit};
+
+/// The yardsticks, in the order of the ratios.
+pub const YARDSTICKS: [&str; 3] = ["plain", "words, early exit", "words, accumulating"];
+
+/// How often everything is measured; the table shows medians.
+pub const PASSES: usize = 5;
+type Lowered = fn(&mut dyn FnMut() -> Duration) -> Duration;
+
+/// How far the stack is lowered. A call's time depends on where its frames stand in cache lines and pages, so a measurement is
+/// the mean over these, which are spread over a page and over all places in a line; for each the median of so many pieces.
+#[rustfmt::skip]
+const POSITIONS: [Lowered; 16] = [
+    lowered::<16>, lowered::<288>, lowered::<560>, lowered::<832>,
+    lowered::<1104>, lowered::<1376>, lowered::<1648>, lowered::<1920>,
+    lowered::<2192>, lowered::<2464>, lowered::<2736>, lowered::<3008>,
+    lowered::<3280>, lowered::<3552>, lowered::<3824>, lowered::<4096>,
+];
+const PIECES: usize = 7;
+/// How long a piece takes at the library's speed.
+const PIECE: Duration = Duration::from_micros(250);
+
+/// The library's time for a call, and its ratio to each yardstick's.
+#[derive(Clone, Copy)]
+pub struct Figures {
+    pub nanoseconds: f64,
+    pub ratios: [f64; YARDSTICKS.len()],
+}
+
+/// The medians of all passes over a case.
+pub struct Row {
+    pub name: String,
+    /// Calls of one measurement.
+    pub calls: usize,
+    pub figures: Figures,
+    /// How far the passes lie apart: the largest difference between two ratios to one yardstick, by their median.
+    pub spread: f64,
+}
+
+impl Row {
+    fn new(case: &Case, rounds: u32, passes: &[Figures]) -> Row {
+        let ratios = |yardstick: usize| passes.iter().map(|pass| pass.ratios[yardstick]).collect::<Vec<_>>();
+        let figures = Figures {
+            nanoseconds: median(passes.iter().map(|pass| pass.nanoseconds).collect()),
+            ratios: std::array::from_fn(|yardstick| median(ratios(yardstick))),
+        };
+        let spread = |yardstick: usize| {
+            let all = ratios(yardstick);
+            let (least, most) = all.iter().fold((f64::MAX, 0.0), |(l, m), &r| (r.min(l), r.max(m)));
+            (most - least) / figures.ratios[yardstick]
+        };
+        Row {
+            name: case.name.clone(),
+            calls: rounds as usize * ROUND * PIECES * POSITIONS.len(),
+            figures,
+            spread: (0..YARDSTICKS.len()).map(spread).fold(0.0, f64::max),
+        }
+    }
+}
+
+/// The memory that a device works on, and what it has left in it.
+struct Bench<D: Device> {
+    hubs: Vec<<D::Hub as Form>::Owned>,
+    region: Vec<u8>,
+    table: [Delivery; MAX_PEERS],
+    buffer: [u8; SHARED_BYTES],
+}
+
+/// All that can be seen of a round: answers, hubs, region, table and buffer.
+#[derive(PartialEq)]
+struct Trace {
+    answers: Vec<Answer>,
+    hubs: Vec<[u32; HUB_WORDS]>,
+    region: Vec<u8>,
+    table: [Delivery; MAX_PEERS],
+    buffer: [u8; SHARED_BYTES],
+}
+
+trait Timed {
+    fn time(&mut self, case: &Case, rounds: u32) -> Duration;
+    /// Two rounds without a clock, or one where a second would be refused.
+    fn trace(&mut self, case: &Case) -> Trace;
+}
+
+impl<D: Device> Bench<D> {
+    fn new(case: &Case) -> Bench<D> {
+        let mut bench = Bench {
+            hubs: Vec::new(),
+            region: vec![0; case.region_bytes],
+            table: [Delivery::default(); MAX_PEERS],
+            buffer: std::array::from_fn(|at| at as u8 + 1),
+        };
+        bench.restore(case);
+        bench
+    }
+
+    fn restore(&mut self, case: &Case) {
+        self.hubs.clear();
+        self.hubs.extend(case.hubs.iter().map(D::Hub::owned));
+    }
+
+    fn round(&mut self, case: &Case, mut answered: impl FnMut(Answer)) {
+        for (hub, call) in self.hubs.iter_mut().zip(&case.calls) {
+            let lending = Lending { region: &mut self.region, table: &mut self.table, buffer: &mut self.buffer };
+            answered(perform::<D>(black_box(hub.borrow_mut()), black_box(call), lending));
+        }
+    }
+}
+
+impl<D: Device> Timed for Bench<D> {
+    fn time(&mut self, case: &Case, rounds: u32) -> Duration {
+        let mut taken = Duration::ZERO;
+        let (stretches, rounds) = if case.repeatable { (1, rounds) } else { (rounds, 1) };
+        for _ in 0..stretches {
+            if !case.repeatable {
+                self.restore(case);
+            }
+            let start = Instant::now();
+            for _ in 0..rounds {
+                self.round(case, |answer| {
+                    black_box(answer);
+                });
+            }
+            taken += start.elapsed();
+        }
+        taken
+    }
+
+    fn trace(&mut self, case: &Case) -> Trace {
+        let mut answers = Vec::new();
+        for _ in 0..if case.repeatable { 2 } else { 1 } {
+            self.round(case, |answer| answers.push(answer));
+        }
+        Trace {
+            answers,
+            hubs: self.hubs.iter().map(D::Hub::words).collect(),
+            region: self.region.clone(),
+            table: self.table,
+            buffer: self.buffer,
+        }
+    }
+}
+
+/// The library first, then the yardsticks.
+fn benches(case: &Case) -> [Box<dyn Timed>; 1 + YARDSTICKS.len()] {
+    [
+        Box::new(Bench::<Library>::new(case)),
+        Box::new(Bench::<PlainStruct>::new(case)),
+        Box::new(Bench::<WordsEarlyExit>::new(case)),
+        Box::new(Bench::<WordsAccumulating>::new(case)),
+    ]
+}
+
+/// Ends the program where a yardstick does not leave what the library leaves, or the case is not what its name says.
+fn check(case: &Case) {
+    let [library, yardsticks @ ..] = benches(case).map(|mut bench| bench.trace(case));
+    for answer in &library.answers {
+        assert_eq!((answer.number, answer.count), (case.number, case.deliveries), "{}", case.name);
+    }
+    for (name, trace) in YARDSTICKS.iter().zip(&yardsticks) {
+        assert!(*trace == library, "{}: {name} differs from the library", case.name);
+    }
+}
+
+/// How many rounds the library makes in one piece.
+fn rounds(case: &Case) -> u32 {
+    const TRIAL: u32 = 100;
+    let mut bench = Bench::<Library>::new(case);
+    // The shortest trial is one in which nothing else ran.
+    let trial = (0..8).map(|_| bench.time(case, TRIAL)).min().unwrap_or_default();
+    (PIECE.as_nanos() * u128::from(TRIAL) / trial.as_nanos().max(1)).max(1) as u32
+}
+
+/// Does the work with the stack so many bytes lower.
+#[inline(never)]
+fn lowered<const BYTES: usize>(work: &mut dyn FnMut() -> Duration) -> Duration {
+    let room = black_box([0u8; BYTES]);
+    let taken = work();
+    black_box(&room);
+    taken
+}
+
+fn median(mut values: Vec<f64>) -> f64 {
+    values.sort_by(f64::total_cmp);
+    values[values.len() / 2]
+}
+
+fn measure(case: &Case, rounds: u32) -> Figures {
+    let mut benches = benches(case);
+    for bench in &mut benches {
+        bench.time(case, 1 + rounds / 4);
+    }
+    let mut sums = [0.0; 1 + YARDSTICKS.len()];
+    for position in POSITIONS {
+        let mut pieces = benches.each_ref().map(|_| Vec::new());
+        for _ in 0..PIECES {
+            for (bench, pieces) in benches.iter_mut().zip(&mut pieces) {
+                pieces.push(position(&mut || bench.time(case, rounds)).as_nanos() as f64);
+            }
+        }
+        for (sum, pieces) in sums.iter_mut().zip(pieces) {
+            *sum += median(pieces);
+        }
+    }
+    let [library, yardsticks @ ..] = sums;
+    Figures {
+        nanoseconds: library / f64::from(rounds) / (ROUND * POSITIONS.len()) as f64,
+        ratios: yardsticks.map(|yardstick| library / yardstick),
+    }
+}
+
+/// Checks the cases, then measures all of them in every pass.
+#[must_use]
+pub fn measure_all(cases: &[Case]) -> Vec<Row> {
+    cases.iter().for_each(check);
+    let rounds: Vec<u32> = cases.iter().map(rounds).collect();
+    let mut figures = vec![Vec::new(); cases.len()];
+    for _ in 0..PASSES {
+        for (figures, (case, rounds)) in figures.iter_mut().zip(cases.iter().zip(&rounds)) {
+            figures.push(measure(case, *rounds));
+        }
+    }
+    let passes = cases.iter().zip(&rounds).zip(&figures);
+    passes.map(|((case, rounds), passes)| Row::new(case, *rounds, passes)).collect()
+}
