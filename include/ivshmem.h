@@ -55,7 +55,8 @@ typedef struct ivshmem_reply {
     uint32_t value;
 } ivshmem_reply;
 
-/* An interrupt that the host injects into a guest: MSI-X vector `vector` of peer `target`, its message address and data. */
+/* An interrupt that the host injects into a guest: MSI-X vector `vector` of peer `target`, its message address and data. The
+   last four bytes are padding, and hold anything in a record that a call has written. */
 typedef struct ivshmem_delivery {
     uint32_t target;
     uint32_t vector;

@@ -75,8 +75,8 @@ fn fresh(hub: &Hub) {
     configuration(hub, 0, 0xFC, 4);
 }
 
-// Peer 1 with all that can be written set, where peer 0 stays as it was connected.
-fn written(hub: &mut Hub) {
+// Sets all that can be written in the configuration space of peer 1.
+fn write_all(hub: &mut Hub) {
     calls::made(
         hub,
         b"Command of 1",
@@ -107,6 +107,11 @@ fn written(hub: &mut Hub) {
         places::PEERS + 8 + places::MESSAGE,
         0xC0,
     );
+}
+
+// Peer 1 with all set, where peer 0 stays as it was connected.
+fn written(hub: &mut Hub) {
+    write_all(hub);
     configuration(hub, 1, 0x04, 4);
     configuration(hub, 1, 0x10, 4);
     configuration(hub, 1, 0x11, 1);

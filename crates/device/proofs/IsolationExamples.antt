@@ -12,7 +12,7 @@ use Rattle.common.specs.Tests.{first, every, below}
 use Rattle.device.specs.declared.Delivery.{Delivery}
 use Rattle.device.specs.declared.Settings.{Settings}
 use Rattle.device.specs.Call.{Call, call}
-use Rattle.device.specs.Call.Act.{connect, disconnect, reset, configurationRead, configurationWrite, registerRead, registerWrite, msixWrite, load, store}
+use Rattle.device.specs.Call.Act.{connect, disconnect, reset, configurationRead, configurationWrite, registerRead, registerWrite, msixRead, msixWrite, question, load, store}
 use Rattle.device.specs.Configuration
 use Rattle.device.specs.Configuration.{fields, fieldByte, configurationByte, masks, maskIn, maskAt, maskOf, withByte, writtenByte, configurationWritten}
 use Rattle.device.specs.Effect.{announces, registerStored, effect}
@@ -32,11 +32,11 @@ use Rattle.device.specs.Window.{Item, memoryAfter, memoryBit, sentBy, se
 use Rattle.device.specs.World.{zeroSlot, resetSlot}
 use Rattle.device.proofs.Isolation.{isolation}
 
--- two peers with one vector; a page each for the State Table and the common section
+-- three peers with one vector; a page each for the State Table and the common section
 abbrev pub numbers : Settings
-numbers = record { peers = 2; vectors = 1; table = 4096; common = 4096; output = 0; base = 0; protocol = 0; vendor = 0; subsystem = 0 }
+numbers = record { peers = 3; vectors = 1; table = 4096; common = 4096; output = 0; base = 0; protocol = 0; vendor = 0; subsystem = 0 }
 
--- both are connected, and peer 1 has Command bit 1 on
+-- peers 0 and 1 are connected, and peer 1 has Command bit 1 on
 abbrev pub joined : List Call
 joined = call 0 connect ∷ call 1 connect ∷ call 1 (configurationWrite 0x04 2 0x0002) ∷ []
 
@@ -48,15 +48,15 @@ ready =
     ∷ call 0 (configurationWrite 0x63 1 0x80)
     ∷ call 0 (msixWrite 0x08 4 0x40)
     ∷ call 0 (msixWrite 0x0C 4 0)
-    ∷ call 0 (registerWrite 2 0x08 4 1)
+    ∷ call 0 (registerWrite 3 0x08 4 1)
     ∷ [])
 
 -- peer 1 rings vector 0 at peer 0, stores State 5, stores a byte of the common section
 abbrev pub bell : Call
-bell = call 1 (registerWrite 2 0x0C 4 0x00000000)
+bell = call 1 (registerWrite 3 0x0C 4 0x00000000)
 
 abbrev pub stores : Call
-stores = call 1 (registerWrite 2 0x10 4 5)
+stores = call 1 (registerWrite 3 0x10 4 5)
 
 abbrev pub shares : Call
 shares = call 1 (store 4096 (7 ∷ []))
@@ -118,10 +118,10 @@ abbrev pub stateStores : Pair
 stateStores = pair (joined ++ (stores ∷ looks)) (joined ++ looks)
 
 abbrev pub resets : Pair
-resets = pair (joined ++ (stores ∷ call 1 (reset 2) ∷ looks)) (joined ++ (stores ∷ looks))
+resets = pair (joined ++ (stores ∷ call 1 (reset 3) ∷ looks)) (joined ++ (stores ∷ looks))
 
 abbrev pub disconnects : Pair
-disconnects = pair (joined ++ (stores ∷ call 1 (disconnect 2) ∷ looks)) (joined ++ (stores ∷ looks))
+disconnects = pair (joined ++ (stores ∷ call 1 (disconnect 3) ∷ looks)) (joined ++ (stores ∷ looks))
 
 -- (d) a shared store
 abbrev pub sharedStores : Pair
@@ -139,17 +139,27 @@ Coded p =
     (same (codes itemCode (window 0 numbers (p .with))) (codes itemCode (window 0 numbers (p .without))) ≡ false)
     × (same (codes observationCode (observed 0 (start numbers) (p .with))) (codes observationCode (observed 0 (start numbers) (p .without))) ≡ false)
 
--- Calls of peer 1 that are no item: refused ones, reads, stores to its own registers, rings at itself and beyond the last id.
+-- Calls of others that are no item: refused ones, reads, the section question, loads, connects, stores to own registers and entries,
+-- rings at itself, at a third peer and beyond the last id, and rings and State stores with Command bit 1 off (peer 2).
 abbrev pub hidden : List Call
 hidden =
     call 1 (registerRead 0x04 2)
     ∷ call 1 (configurationRead 0x00 4)
     ∷ call 1 (configurationWrite 0x10 4 0xFFFFFFFF)
-    ∷ call 1 (registerWrite 2 0x08 4 1)
-    ∷ call 1 (registerWrite 1 0x10 4 5)
-    ∷ call 1 (registerWrite 2 0x0C 4 0x00010000)
-    ∷ call 1 (registerWrite 2 0x0C 4 0x00020000)
+    ∷ call 1 (registerRead 0x04 4)
+    ∷ call 1 (registerWrite 3 0x08 4 1)
+    ∷ call 1 (registerWrite 2 0x10 4 5)
+    ∷ call 1 (msixRead 0x0C 4)
+    ∷ call 1 (msixWrite 0x0C 4 0)
+    ∷ call 1 (question 0 4)
+    ∷ call 1 (load 0 4)
     ∷ call 1 (store 0 (7 ∷ []))
+    ∷ call 2 connect
+    ∷ call 2 (registerWrite 3 0x0C 4 0x00000000)
+    ∷ call 2 (registerWrite 3 0x10 4 9)
+    ∷ call 1 (registerWrite 3 0x0C 4 0x00010000)
+    ∷ call 1 (registerWrite 3 0x0C 4 0x00020000)
+    ∷ call 1 (registerWrite 3 0x0C 4 0x00030000)
     ∷ []
 
 -- the interrupts among observations

@@ -1,5 +1,5 @@
--- One call, whole: the answer, the deliveries and the world afterwards. Every public call's promise and every theorem is about
--- `step`.
+-- One call, whole: the answer, the deliveries and the world afterwards. Every public call's promise, but that of set-up
+-- (SetUp.antt), and every theorem is about `step`.
 use Prim.Native.Nat.{ℕ, zero, suc}
 use mathlib.Core.List.{List, [], _∷_, _++_}
 use lib.Seq.{sets}

@@ -9,6 +9,7 @@ ghost use mathlib.Core.Path.{_≡_};
 ghost use Rattle.device.specs.Ring.{gateOf, opens, deliveryOf};
 ghost use Rattle.gate.specs.PassedGate.{passedGate};
 
+// Bit k of a word is `word / 2^k % 2`; bit 0 is written like the others.
 pub fn gate_of(p: Peer, e: Entry) -> Gate
     ensures { λ r. ⌜ r ≡ gateOf p e ⌝ }
 {

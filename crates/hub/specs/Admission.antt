@@ -54,11 +54,11 @@ anyWidth width = eqb width 1 || eqb width 2 || eqb width 4
 
 -- a range of the shared region
 abbrev pub rangeRows : Settings → ℕ → ℕ → List Row
-rangeRows s offset length = row 6 (eqb length 0) ∷ row 8 (not (somewhere (sectionOf s offset length))) ∷ []
+rangeRows s offset size = row 6 (eqb size 0) ∷ row 8 (not (somewhere (sectionOf s offset size))) ∷ []
 
 -- a range that is to be stored to
 abbrev pub storeRows : Settings → ℕ → ℕ → ℕ → List Row
-storeRows s who offset length = row 9 (not (mayStore who (sectionOf s offset length))) ∷ []
+storeRows s who offset size = row 9 (not (mayStore who (sectionOf s offset size))) ∷ []
 
 -- what is known of a caller that these checks let pass, and of its access to a space
 pub record Admitted (ws : List ℕ) (lent : Lending) (id : ℕ) : Type 0 where
@@ -72,9 +72,9 @@ pub record Inside (size : ℕ) (allowed : Bool) (at w : ℕ) : Type 0 where
   pub width : allowed ≡ true
   pub fits : at + w ≤ size
 
-pub record InSection (s : Settings) (offset length : ℕ) : Type 0 where
-  pub some : 0 < length
-  pub fits : offset + length ≤ total s
+pub record InSection (s : Settings) (offset size : ℕ) : Type 0 where
+  pub some : 0 < size
+  pub fits : offset + size ≤ total s
 
 -- what is known of a set-up that is accepted
 pub record SetUpFacts (words : ℕ) (s : Settings) : Type 0 where

@@ -105,11 +105,11 @@ pub extern "C" fn ivshmem_section_question(
     hub: &[u32],
     id: u64,
     offset: u64,
-    length: u64,
+    size: u64,
 ) -> SectionNumbers
-    ensures { λ r. ⌜ AnswersInNumbers (now (hub .entry)) (call id (Act.question offset length)) r ⌝ }
+    ensures { λ r. ⌜ AnswersInNumbers (now (hub .entry)) (call id (Act.question offset size)) r ⌝ }
 {
-    numbered(hub::section_question(hub, id, offset, length))
+    numbered(hub::section_question(hub, id, offset, size))
 }
 
 #[no_mangle]

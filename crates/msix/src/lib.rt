@@ -23,7 +23,7 @@ pub fn word(e: Entry, k: u64) -> u32
     }
 }
 
-// An entry with one word stored to; its fixed bits stay 0.
+// An entry with one word stored to: each word has a mask of the bits that a store replaces, and fixed bits stay 0.
 pub fn with_word(e: Entry, k: u64, value: u32) -> Entry
     ensures { λ r. ⌜ r ≡ withWord e k value ⌝ }
 {

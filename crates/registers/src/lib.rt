@@ -53,6 +53,7 @@ pub fn with_interrupt(p: Peer, value: u32) -> Peer
     q
 }
 
+// The definition takes 32 bits of any number, as this mask does; of a `u32` it takes all.
 pub fn with_state(p: Peer, value: u32) -> Peer
     ensures { λ r. ⌜ r ≡ withState p (stateValue value) ⌝ }
 {

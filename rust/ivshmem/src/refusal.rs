@@ -5,7 +5,8 @@ use core::fmt;
 
 use crate::raw::Reply;
 
-/// Why a call was refused. A refused call has changed nothing and delivered nothing.
+/// Why a call was refused. A refused call has changed nothing and delivered nothing; only a set-up that is
+/// refused for its numbers or its region leaves words that are all zero.
 ///
 /// Where several reasons apply, the first in this order is given: [`UnsoundHub`](Refusal::UnsoundHub),
 /// [`BadSetting`](Refusal::BadSetting), [`BadRegion`](Refusal::BadRegion), [`ShortTable`](Refusal::ShortTable),
