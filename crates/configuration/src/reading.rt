@@ -81,6 +81,7 @@ fn msix_capability(s: Settings, p: Peer, at: u64, other: u64) -> u64
     field(at, 0x60, 1, 0x11, r)
 }
 
+// Only the part of the table that the offset is in is worked out.
 pub fn byte_at(s: Settings, p: Peer, at: u64) -> u64
     ensures is { λ r. ⌜ r ≡ configurationByte s p at ⌝ }
     ensures fits { λ r. ⌜ r < 256 ⌝ }

@@ -1,6 +1,6 @@
 -- `configuration::reading::byte_at` meets its contract: the two parts that an offset is not in leave the byte of the third.
 use Prim.Native.Nat.{ℕ, _+_, _≤_, _<_}
-use mathlib.Core.Bool.{Bool, true, false, _&&_}
+use mathlib.Core.Bool.{Bool, true, _&&_}
 use mathlib.Core.List.{List, [], _∷_}
 use mathlib.Core.Path.{_≡_, refl}
 use native.Mathlib.Omega.{arith}
@@ -8,11 +8,11 @@ use lib.Dec.{leb}
 use borrow.Author.Needs.{needs}
 use borrow.Author.Tests.{leb-true}
 use Rattle.common.proofs.TestLaws.{and-left, and-right, first-le}
-use Rattle.device.specs.Configuration.{Field, within, headerFields, vendorFields, msixFields, configurationByte, fields, fieldByte}
+use Rattle.device.specs.Configuration.{Field, headerFields, vendorFields, msixFields, configurationByte, fields, fieldByte}
 use Rattle.device.specs.declared.Peer.{Peer}
 use Rattle.device.specs.declared.Settings.{Settings}
-use Rattle.device.proofs.ConfigurationLaws.{in-range}
 use Rattle.configuration.specs.Parts.{fieldByteOr}
+use Rattle.configuration.proofs.OffsetLaws.{not-within}
 use Rattle.configuration.proofs.reading.byte_at.Statement.{statement}
 use Rattle.configuration.proofs.reading.byte_at.Tie as tie
 
@@ -21,27 +21,18 @@ abbrev inside : ℕ → ℕ → List Field → Bool
 inside low high [] = true
 inside low high (f ∷ fs) = (leb low (f .start) && leb (f .start + f .size) high) && inside low high fs
 
-not-held : (low high at : ℕ) (f : Field) → leb low (f .start) && leb (f .start + f .size) high ≡ true → (low ≤ at → at < high → ⊥)
-    → within (f .start) (f .size) at ≡ false
-not-held low high at f e h = go (within (f .start) (f .size) at) refl
-  where
-    go : (t : Bool) → within (f .start) (f .size) at ≡ t → within (f .start) (f .size) at ≡ false
-    go true w =
-        let r = in-range (f .start) (f .size) at w in
-        let from : low ≤ f .start = first-le low (f .start) _ e in
-        let to : f .start + f .size ≤ high = leb-true _ high (and-right (leb low (f .start)) _ e) in
-        absurd (h (omega arith) (omega arith))
-    go false w = w
-
 -- so none of them holds an offset that does not
 outside : (low high at : ℕ) (fs : List Field) (other : ℕ) → inside low high fs ≡ true → (low ≤ at → at < high → ⊥)
     → fieldByteOr at fs other ≡ other
 unfolding fieldByteOr
 outside low high at [] other e h = refl
 outside low high at (f ∷ fs) other e h =
-    let first = leb low (f .start) && leb (f .start + f .size) high in
-    rw (not-held low high at f (and-left first (inside low high fs) e) h)
-    (outside low high at fs other (and-right first (inside low high fs) e) h)
+    let here = leb low (f .start) && leb (f .start + f .size) high in
+    let both : here ≡ true = and-left here (inside low high fs) e in
+    let from : low ≤ f .start = first-le low (f .start) _ both in
+    let to : f .start + f .size ≤ high = leb-true _ high (and-right (leb low (f .start)) _ both) in
+    rw (not-within (f .start) (f .size) at (λ l k. h (omega arith) (omega arith)))
+    (outside low high at fs other (and-right here (inside low high fs) e) h)
 
 module _ (s : Settings) (p : Peer) (at : ℕ) where
   parts : configurationByte s p at ≡ fieldByteOr at (headerFields s p) (fieldByteOr at (vendorFields s p) (fieldByteOr at (msixFields s p) 0))
