@@ -81,13 +81,18 @@ fn msix_capability(s: Settings, p: Peer, at: u64, other: u64) -> u64
     field(at, 0x60, 1, 0x11, r)
 }
 
+// Only the part of the table that the offset is in is worked out.
 pub fn byte_at(s: Settings, p: Peer, at: u64) -> u64
     ensures is { λ r. ⌜ r ≡ configurationByte s p at ⌝ }
     ensures fits { λ r. ⌜ r < 256 ⌝ }
 {
-    let r = msix_capability(s, p, at, 0);
-    let r = vendor_capability(s, p, at, r);
-    header(s, p, at, r)
+    if at < 0x40 {
+        return header(s, p, at, 0);
+    }
+    if at < 0x60 {
+        return vendor_capability(s, p, at, 0);
+    }
+    msix_capability(s, p, at, 0)
 }
 
 // A read of up to four bytes, little-endian, from the highest to the lowest.

@@ -74,10 +74,14 @@ fn with_byte(p: Peer, at: u64, b: u64) -> Peer
     }
 }
 
+// Most bytes have no bit that can be written.
 fn write_byte(s: Settings, p: Peer, at: u64, b: u64) -> Peer
     ensures { λ r. ⌜ r ≡ writtenByte s p at b ⌝ }
 {
     let mask = mask_at(s, at);
+    if mask == 0 {
+        return p;
+    }
     let old = super::reading::byte_at(s, p, at);
     with_byte(p, at, merge(mask, old, b))
 }
