@@ -85,6 +85,7 @@ pub record Mask : Type 0 where
 abbrev pub mask : ℕ → ℕ → Mask
 mask at bits = record { at = at; bits = bits }
 
+-- a function of the settings, as the contents are: what a device offers is chosen at set-up, though no mask depends on it today
 unfoldable pub masks : Settings → List Mask
 masks s =
     mask 0x04 0x06
