@@ -1,4 +1,4 @@
-// The whole hub: every slot is tested, none is left out early, so that the loops stay free of branches.
+// The whole hub: every slot is tested, none is left out early, with one branch for each, so that the compiler can vectorise.
 use device::Settings;
 ghost use mathlib.Core.Path.{_≡_};
 ghost use mathlib.Core.Bool.{true, cond};
@@ -26,7 +26,7 @@ fn entries_fixed(hub: &[u32], i: usize) -> bool
     ok
 }
 
-// The entries from this vector on, up to the last.
+// The entries from this vector to the last; none where it is beyond the last.
 fn entries_reset(hub: &[u32], i: usize, from: usize) -> bool
     requires room { ⌜ length (now hub) ≡ hubWords ⌝ }
     requires known { ⌜ i < maxPeers ⌝ }
@@ -43,6 +43,7 @@ fn entries_reset(hub: &[u32], i: usize, from: usize) -> bool
 }
 
 // Reset values have the fixed bits too, so all entries of a slot in use are tested for these, and no branch depends on a vector.
+// Those not in use come first: where both branches began with the same loads, fewer were vectorised.
 fn slot_sound(hub: &[u32], s: Settings, i: usize) -> bool
     requires room { ⌜ length (now hub) ≡ hubWords ⌝ }
     requires known { ⌜ i < maxPeers ⌝ }
@@ -51,8 +52,8 @@ fn slot_sound(hub: &[u32], s: Settings, i: usize) -> bool
     let p = words::peer(hub, i);
     let used = super::parts::in_use(s, i as u64, p);
     if used {
-        let fixed = entries_fixed(hub, i);
         let unused = entries_reset(hub, i, s.vectors as usize);
+        let fixed = entries_fixed(hub, i);
         return super::parts::peer_fixed(s, p) & (fixed & unused);
     }
     let entries = entries_reset(hub, i, 0);
@@ -80,6 +81,9 @@ pub fn sound(hub: &[u32]) -> bool
         return false;
     }
     let s = words::settings(hub);
-    let slots = slots_sound(hub, s);
-    super::accepted(s) & slots
+    let ok = super::accepted(s);
+    if ok {
+        return slots_sound(hub, s);
+    }
+    false
 }

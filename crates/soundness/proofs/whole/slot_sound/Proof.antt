@@ -14,11 +14,11 @@ peer-requires c κs = search needs
 in-use-requires : tie.Need-in-use-requires
 in-use-requires c κs = search needs
 
-entries-fixed-requires : tie.Need-entries-fixed-requires
-entries-fixed-requires c κs = search needs
-
 entries-reset-requires : tie.Need-entries-reset-requires
 entries-reset-requires c κs = search needs
+
+entries-fixed-requires : tie.Need-entries-fixed-requires
+entries-fixed-requires c κs = search needs
 
 peer-fixed-requires : tie.Need-peer-fixed-requires
 peer-fixed-requires c κs = search needs
@@ -27,7 +27,7 @@ returns : tie.Need-returns
 unfolding slotSound peerSound vectorsInUse
 returns c =
     let slot = slotAt (hubOf (c .before .before .before .before .before .before .before .args .hub .now)) (c .before .before .before .before .before .before .before .args .i) in
-    rw (← (c .before .before .before .before .before .peer .ensures), ← (c .before .before .before .before .in-use .ensures), c .before .before .before .if1 .taken, c .peer-fixed .ensures, c .before .before .entries-fixed .ensures, c .before .entries-reset .ensures, entries-split maxVectors (c .before .before .before .before .before .before .before .args .s .vectors) (λ v. entryAt slot v))
+    rw (← (c .before .before .before .before .before .peer .ensures), ← (c .before .before .before .before .in-use .ensures), c .before .before .before .if1 .taken, c .peer-fixed .ensures, c .before .entries-fixed .ensures, c .before .before .entries-reset .ensures, entries-split maxVectors (c .before .before .before .before .before .before .before .args .s .vectors) (λ v. entryAt slot v))
 
 entries-reset-requires-2 : tie.Need-entries-reset-requires-2
 entries-reset-requires-2 c κs = search needs
@@ -47,8 +47,8 @@ slot-sound-spec =
     (tie.spec
     peer-requires
     in-use-requires
-    entries-fixed-requires
     entries-reset-requires
+    entries-fixed-requires
     peer-fixed-requires
     returns
     entries-reset-requires-2
