@@ -1,2 +1,3 @@
+pub mod EntriesLaws
 pub mod PartsLaws
 pub mod WholeLaws

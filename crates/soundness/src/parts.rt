@@ -11,7 +11,7 @@ pub fn in_use(s: Settings, i: u64, p: Peer) -> bool
     (i < s.peers) & (p.connected == 1)
 }
 
-fn peer_fixed(s: Settings, p: Peer) -> bool
+pub fn peer_fixed(s: Settings, p: Peer) -> bool
     ensures { λ r. ⌜ r ≡ Sound.peerFixed s p ⌝ }
 {
     ((p.command & 0x0406) == p.command)
@@ -22,7 +22,7 @@ fn peer_fixed(s: Settings, p: Peer) -> bool
         & ((p.interrupt & 0x01) == p.interrupt)
 }
 
-fn peer_reset(p: Peer) -> bool
+pub fn peer_reset(p: Peer) -> bool
     ensures { λ r. ⌜ r ≡ Sound.peerReset p ⌝ }
 {
     (p.connected == 0)
@@ -35,34 +35,14 @@ fn peer_reset(p: Peer) -> bool
         & (p.state == 0)
 }
 
-pub fn peer_sound(s: Settings, i: u64, p: Peer) -> bool
-    ensures { λ r. ⌜ r ≡ Sound.peerSound s i p ⌝ }
-{
-    let used = in_use(s, i, p);
-    if used {
-        return peer_fixed(s, p);
-    }
-    peer_reset(p)
-}
-
-fn entry_fixed(e: Entry) -> bool
+pub fn entry_fixed(e: Entry) -> bool
     ensures { λ r. ⌜ r ≡ Sound.entryFixed e ⌝ }
 {
     ((e.low & 0xFFFFFFFC) == e.low) & ((e.control & 0x00000001) == e.control)
 }
 
-fn entry_reset(e: Entry) -> bool
+pub fn entry_reset(e: Entry) -> bool
     ensures { λ r. ⌜ r ≡ Sound.entryReset e ⌝ }
 {
     (e.low == 0) & (e.high == 0) & (e.payload == 0) & (e.control == 1)
-}
-
-// An entry of a slot of which so many vectors are in use.
-pub fn entry_sound(used: u64, v: u64, e: Entry) -> bool
-    ensures { λ r. ⌜ r ≡ Sound.entrySound used v e ⌝ }
-{
-    if v < used {
-        return entry_fixed(e);
-    }
-    entry_reset(e)
 }

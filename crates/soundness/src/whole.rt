@@ -1,9 +1,9 @@
-// The whole hub: every slot is tested, none is left out early, so that the loops stay free of branches.
-use device::Peer;
+// The whole hub: every slot is tested, none is left out early, with one branch for each, so that the compiler can vectorise.
 use device::Settings;
 ghost use mathlib.Core.Path.{_≡_};
-ghost use mathlib.Core.Bool.{_&&_};
+ghost use mathlib.Core.Bool.{true, cond};
 ghost use Prim.Native.Nat.{_<_};
+ghost use lib.Dec.{ltb};
 ghost use lib.ListN.{length};
 ghost use Rattle.common.specs.Tests.{below};
 ghost use Rattle.device.specs.Sizes.{maxPeers, maxVectors};
@@ -11,40 +11,53 @@ ghost use Rattle.device.specs.Sound;
 ghost use Rattle.device.specs.World.{slotAt, entryAt};
 ghost use Rattle.words.specs.Layout.{hubWords, hubOf};
 
-fn vectors_in_use(s: Settings, i: u64, p: Peer) -> u64
-    ensures { λ r. ⌜ r ≡ Sound.vectorsInUse s i p ⌝ }
-{
-    let used = super::in_use(s, i, p);
-    if used {
-        return s.vectors;
-    }
-    0
-}
-
-fn entries_sound(hub: &[u32], i: usize, used: u64) -> bool
+fn entries_fixed(hub: &[u32], i: usize) -> bool
     requires room { ⌜ length (now hub) ≡ hubWords ⌝ }
     requires known { ⌜ i < maxPeers ⌝ }
-    ensures { λ r. ⌜ r ≡ below maxVectors (λ v. Sound.entrySound used v (entryAt (slotAt (hubOf (now (hub .entry))) i) v)) ⌝ }
+    ensures { λ r. ⌜ r ≡ below maxVectors (λ v. Sound.entryFixed (entryAt (slotAt (hubOf (now (hub .entry))) i) v)) ⌝ }
 {
     let vectors = device::max_vectors();
     let mut ok = true;
     let mut v = 0;
     while v < vectors {
-        ok = ok & super::entry_sound(used, v as u64, words::entry(hub, i, v));
+        ok = ok & super::parts::entry_fixed(words::entry(hub, i, v));
         v += 1;
     }
     ok
 }
 
+// The entries from this vector to the last; none where it is beyond the last.
+fn entries_reset(hub: &[u32], i: usize, from: usize) -> bool
+    requires room { ⌜ length (now hub) ≡ hubWords ⌝ }
+    requires known { ⌜ i < maxPeers ⌝ }
+    ensures { λ r. ⌜ r ≡ below maxVectors (λ v. cond (ltb v from) true (Sound.entryReset (entryAt (slotAt (hubOf (now (hub .entry))) i) v))) ⌝ }
+{
+    let vectors = device::max_vectors();
+    let mut ok = true;
+    let mut v = from;
+    while v < vectors {
+        ok = ok & super::parts::entry_reset(words::entry(hub, i, v));
+        v += 1;
+    }
+    ok
+}
+
+// Reset values have the fixed bits too, so all entries of a slot in use are tested for these, and no branch depends on a vector.
+// Those not in use come first: where both branches began with the same loads, fewer were vectorised.
 fn slot_sound(hub: &[u32], s: Settings, i: usize) -> bool
     requires room { ⌜ length (now hub) ≡ hubWords ⌝ }
     requires known { ⌜ i < maxPeers ⌝ }
     ensures { λ r. ⌜ r ≡ Sound.slotSound s i (slotAt (hubOf (now (hub .entry))) i) ⌝ }
 {
     let p = words::peer(hub, i);
-    let used = vectors_in_use(s, i as u64, p);
-    let entries = entries_sound(hub, i, used);
-    super::peer_sound(s, i as u64, p) & entries
+    let used = super::parts::in_use(s, i as u64, p);
+    if used {
+        let unused = entries_reset(hub, i, s.vectors as usize);
+        let fixed = entries_fixed(hub, i);
+        return super::parts::peer_fixed(s, p) & (fixed & unused);
+    }
+    let entries = entries_reset(hub, i, 0);
+    super::parts::peer_reset(p) & entries
 }
 
 fn slots_sound(hub: &[u32], s: Settings) -> bool
@@ -68,6 +81,9 @@ pub fn sound(hub: &[u32]) -> bool
         return false;
     }
     let s = words::settings(hub);
-    let slots = slots_sound(hub, s);
-    super::accepted(s) & slots
+    let ok = super::accepted(s);
+    if ok {
+        return slots_sound(hub, s);
+    }
+    false
 }

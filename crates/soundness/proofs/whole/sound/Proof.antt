@@ -17,23 +17,21 @@ returns c =
 settings-requires : tie.Need-settings-requires
 settings-requires c κs = search needs
 
-slots-sound-requires : tie.Need-slots-sound-requires
-slots-sound-requires c κs = search needs
-
 accepted-requires : tie.Need-accepted-requires
 accepted-requires c κs = search needs
 
+slots-sound-requires : tie.Need-slots-sound-requires
+slots-sound-requires c κs = search needs
+
 returns-2 : tie.Need-returns-2
 unfolding sound
-returns-2 c = rw (c .accepted .ensures, c .before .slots-sound .ensures, c .before .before .settings .ensures)
+returns-2 c = rw (← (c .before .before .before .settings .ensures), ← (c .before .before .accepted .ensures), c .before .if2 .taken) (c .slots-sound .ensures)
+
+returns-3 : tie.Need-returns-3
+unfolding sound
+returns-3 c = rw (← (c .before .before .settings .ensures), ← (c .before .accepted .ensures), c .if2 .left)
 
 pub sound-spec : {M : Type 1} → statement M
 sound-spec =
     tie.close
-    (tie.spec
-    hub-words-requires
-    returns
-    settings-requires
-    slots-sound-requires
-    accepted-requires
-    returns-2)
+    (tie.spec hub-words-requires returns settings-requires accepted-requires slots-sound-requires returns-2 returns-3)

@@ -1,4 +1,4 @@
--- `soundness::whole::entries_sound` meets its contract. The loop's invariant: the entries passed have been tested.
+-- `soundness::whole::entries_fixed` meets its contract. The loop's invariant: the entries passed have been tested.
 use Prim.Native.Nat.{_-_, _≤_}
 use mathlib.Core.Path.{_≡_, refl, sym}
 use native.Mathlib.Numerals.{add-one}
@@ -7,18 +7,18 @@ use Rattle.common.proofs.TestLaws.{below-suc}
 use Rattle.common.specs.Tests.{below}
 use Rattle.device.proofs.SizeLaws.{maxVectors-small}
 use Rattle.device.specs.Sizes.{maxVectors}
-use Rattle.device.specs.Sound.{entrySound}
+use Rattle.device.specs.Sound.{entryFixed}
 use Rattle.device.specs.World.{slotAt, entryAt}
 use Rattle.words.specs.Layout.{hubOf}
-use Rattle.soundness.proofs.whole.entries_sound.Statement.{statement}
-use Rattle.soundness.proofs.whole.entries_sound.Tie as tie
+use Rattle.soundness.proofs.whole.entries_fixed.Statement.{statement}
+use Rattle.soundness.proofs.whole.entries_fixed.Tie as tie
 
 abbrev Inv-loop : tie.InvT-loop
-Inv-loop hub i used vectors ok₀ v₀ ok v =
-    (vectors ≡ maxVectors) × (v ≤ vectors) × (ok ≡ below v (λ k. entrySound used k (entryAt (slotAt (hubOf hub) i) k)))
+Inv-loop hub i vectors ok₀ v₀ ok v =
+    (vectors ≡ maxVectors) × (v ≤ vectors) × (ok ≡ below v (λ k. entryFixed (entryAt (slotAt (hubOf hub) i) k)))
 
 abbrev μ-loop : tie.MeasureT-loop
-μ-loop hub i used vectors ok₀ v₀ ok v = vectors - v
+μ-loop hub i vectors ok₀ v₀ ok v = vectors - v
 
 max-vectors-requires : tie.Need-max-vectors-requires Inv-loop μ-loop
 max-vectors-requires c κs = tt
@@ -30,8 +30,8 @@ loop-holds c = (c .max-vectors .ensures, omega arith, refl)
 entry-requires : tie.Need-entry-requires Inv-loop μ-loop
 entry-requires c κs = (c .before .before .before .before .pre .0, (c .before .before .before .before .pre .1, omega arith))
 
-entry-sound-requires : tie.Need-entry-sound-requires Inv-loop μ-loop
-entry-sound-requires c κs = tt
+entry-fixed-requires : tie.Need-entry-fixed-requires Inv-loop μ-loop
+entry-fixed-requires c κs = tt
 
 add-v : tie.Need-add-v Inv-loop μ-loop
 add-v c = omega (arith, maxVectors-small)
@@ -41,15 +41,15 @@ loop-less c = omega arith
 
 loop-again : tie.Need-loop-again Inv-loop μ-loop
 loop-again c =
-    (c .before .before .before .loop .inv .0, omega arith, rw (c .before .before .before .loop .inv .2, c .entry-sound .ensures, c .before .entry .ensures, add-one) (sym (below-suc _ _)))
+    (c .before .before .before .loop .inv .0, omega arith, rw (c .before .before .before .loop .inv .2, c .entry-fixed .ensures, c .before .entry .ensures, add-one) (sym (below-suc _ _)))
 
 returns : tie.Need-returns Inv-loop μ-loop
 returns c =
     let e : c .before .loop .v ≡ maxVectors = omega arith in
     rw e at (c .before .loop .inv .2)
 
-pub entries-sound-spec : {M : Type 1} → statement M
-entries-sound-spec =
+pub entries-fixed-spec : {M : Type 1} → statement M
+entries-fixed-spec =
     tie.close
     (tie.spec
     Inv-loop
@@ -57,7 +57,7 @@ entries-sound-spec =
     max-vectors-requires
     loop-holds
     entry-requires
-    entry-sound-requires
+    entry-fixed-requires
     add-v
     loop-less
     loop-again
