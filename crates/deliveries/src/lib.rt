@@ -56,9 +56,11 @@ pub fn ring_one(hub: &mut [u32], t: PeerId, v: Vector) -> Deliveries
         RingOutcome::Delivered(d) => {
             list.records[0] = d;
             list.count = 1;
-            list
+            return list;
         }
-        RingOutcome::Lost => list,
+        RingOutcome::Lost => {
+            return list;
+        }
     }
 }
 
