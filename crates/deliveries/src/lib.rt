@@ -56,11 +56,9 @@ pub fn ring_one(hub: &mut [u32], t: PeerId, v: Vector) -> Deliveries
         RingOutcome::Delivered(d) => {
             list.records[0] = d;
             list.count = 1;
-            return list;
+            list
         }
-        RingOutcome::Lost => {
-            return list;
-        }
+        RingOutcome::Lost => list,
     }
 }
 

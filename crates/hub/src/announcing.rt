@@ -54,7 +54,7 @@ fn restart(hub: &mut [u32], region: &mut [u8], id: u64, connected: u32) -> Deliv
     announce(hub, region, id, 0)
 }
 
-// A store to a register while Command bit 1 is on. Each arm returns for itself, which spares a copy of the deliveries.
+// A store to a register while Command bit 1 is on.
 fn store_register(
     hub: &mut [u32],
     region: &mut [u8],
@@ -69,23 +69,19 @@ fn store_register(
     match offset {
         0x08 => {
             words::put_peer(hub, id as usize, registers::with_interrupt(p, value));
-            return deliveries::none();
+            deliveries::none()
         }
-        0x0C => {
-            return deliveries::ring_one(
-                hub,
-                registers::rung_peer(value),
-                registers::rung_vector(value),
-            );
-        }
+        0x0C => deliveries::ring_one(
+            hub,
+            registers::rung_peer(value),
+            registers::rung_vector(value),
+        ),
         0x10 => {
             let q = registers::with_state(p, value);
             words::put_peer(hub, id as usize, q);
-            return announce(hub, region, id, q.state);
+            announce(hub, region, id, q.state)
         }
-        _ => {
-            return deliveries::none();
-        }
+        _ => deliveries::none(),
     }
 }
 

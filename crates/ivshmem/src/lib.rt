@@ -40,29 +40,22 @@ pub enum Request {
     Disconnect,
 }
 
-// The core of the three calls: all take the table's length as a number, and give their deliveries by value. Each returns for
-// itself, which spares a copy of the deliveries.
+// The core of the three calls: all take the table's length as a number, and give their deliveries by value.
 fn perform(hub: &mut [u32], region: &mut [u8], records: usize, id: u64, request: Request) -> Served
     ensures { λ r. ⌜ Fills (now (hub .entry)) (now (hub .exit)) (now (region .entry)) (now (region .exit)) id (actOf request) records r ⌝ }
 {
     match request {
-        Request::RegisterWrite(store) => {
-            return hub::register_write(
-                hub,
-                region,
-                records as u64,
-                id,
-                store.offset,
-                store.width,
-                store.value,
-            );
-        }
-        Request::Reset => {
-            return hub::reset(hub, region, records as u64, id);
-        }
-        Request::Disconnect => {
-            return hub::disconnect(hub, region, records as u64, id);
-        }
+        Request::RegisterWrite(store) => hub::register_write(
+            hub,
+            region,
+            records as u64,
+            id,
+            store.offset,
+            store.width,
+            store.value,
+        ),
+        Request::Reset => hub::reset(hub, region, records as u64, id),
+        Request::Disconnect => hub::disconnect(hub, region, records as u64, id),
     }
 }
 

@@ -48,8 +48,8 @@ ring-one-spec =
     ring-requires
     enum-known-d
     element-set-from-d
+    enum-told
     same-length
     returns
-    enum-told
     same-length-2
     returns-2)

@@ -66,16 +66,16 @@ perform-spec =
     (tie.spec
     enum-known-request
     register-write-requires
+    enum-told
+    reset-requires
+    enum-told-2
+    disconnect-requires
     same-length
     same-length-2
     returns
-    enum-told
-    reset-requires
     same-length-3
     same-length-4
     returns-2
-    enum-told-2
-    disconnect-requires
     same-length-5
     same-length-6
     returns-3)

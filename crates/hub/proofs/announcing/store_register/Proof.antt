@@ -105,19 +105,19 @@ store-register-spec =
     with-interrupt-requires
     put-peer-requires
     none-requires
-    same-length
-    returns
     rung-peer-requires
     rung-vector-requires
     ring-one-requires
-    same-length-2
-    returns-2
     with-state-requires
     put-peer-requires-2
     announce-requires
+    none-requires-2
+    same-length
+    returns
+    same-length-2
+    returns-2
     same-length-3
     same-length-4
     returns-3
-    none-requires-2
     same-length-5
     returns-4)
