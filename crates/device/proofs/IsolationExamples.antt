@@ -169,7 +169,7 @@ interrupts (Observation.answered n v a l ∷ os) = interrupts os
 interrupts (Observation.interrupted d ∷ os) = d ∷ interrupts os
 
 -- all that the examples compute with
-computing : Unit {0}
+unfoldable pub computing : Unit {0}
 unfolding bytes number setByte first every below fields fieldByte configurationByte masks maskIn maskAt maskOf withByte writtenByte configurationWritten Configuration.configurationRead announces registerStored effect start observed deliveriesTo answerTo inTable withWord msixWritten lentTo accessOf wrongRegion shortTable missing present wrongWidth misaligned outside forbidden isConnected refusal registerAt memoryOn registerValue Registers.registerRead gateOf opens target deliveryOf afterDelivery ringAt ring ringFrom Ring.ringOthers outputs sections sectionIn sectionOf somewhere mayStore total accepted freshHub maxPeers maxVectors peerFixed peerReset entryFixed entryReset inUse vectorsInUse peerSound entrySound slotSound sound run runAll stepBy step memoryAfter memoryBit sentBy sent items windowFrom window zeroSlot resetSlot
 computing = tt
 

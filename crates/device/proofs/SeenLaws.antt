@@ -50,7 +50,7 @@ heardFirst hs x = record { view = x .view; heard = hs ++ x .heard }
 abbrev joined : Ran → Ran → Ran
 joined r q = ran (q .world) (r .deliveries ++ q .deliveries)
 
-both-deliveries : (b : ℕ) (ds es : List Delivery) → deliveriesTo b (ds ++ es) ≡ deliveriesTo b ds ++ deliveriesTo b es
+pub both-deliveries : (b : ℕ) (ds es : List Delivery) → deliveriesTo b (ds ++ es) ≡ deliveriesTo b ds ++ deliveriesTo b es
 unfolding deliveriesTo
 both-deliveries b [] es = refl
 both-deliveries b (d ∷ ds) es = rw (both-deliveries b ds es) (go (eqb (d .target .0) b))

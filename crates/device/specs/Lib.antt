@@ -15,3 +15,4 @@ pub mod Effect
 pub mod Step
 pub mod History
 pub mod Window
+pub mod OneShot
