@@ -21,13 +21,12 @@ use Rattle.device.specs.History.{Observation, start, after, observed, de
 use Rattle.device.specs.OneShot.{peerOf, control, oneShot, throughout, interrupts, turnsAct, turns, one, count, timesSet, timesCleared, OneShot, OneShotHolds}
 use Rattle.device.specs.Refusal.{isConnected, refusal}
 use Rattle.device.specs.Registers.{Register, registerAt, memoryOn}
-use Rattle.device.specs.Ring.{withInterrupt}
 use Rattle.device.specs.SetUp.{accepted}
 use Rattle.device.specs.Sizes.{maxPeers}
 use Rattle.device.specs.Sound.{peerFixed, peerReset, inUse, peerSound, slotSound}
-use Rattle.device.specs.Step.{Outcome, run, runAll, refused, done, effectIn, step}
+use Rattle.device.specs.Step.{Ran, Outcome, run, runAll, refused, done, effectIn, step}
 use Rattle.device.specs.Window.{isAccepted}
-use Rattle.device.specs.World.{Slot, World, zeroSlot, resetSlot, slotAt, withPeer}
+use Rattle.device.specs.World.{Slot, World, zeroSlot, resetSlot, slotAt}
 use Rattle.device.proofs.FixedLaws.{fixed-facts}
 use Rattle.device.proofs.HistoryLaws.{Fit, start-fit, step-fit}
 use Rattle.device.proofs.KeepingLaws.{Frame}
@@ -225,11 +224,13 @@ pub doorbell-lost : (w : World) (who records at width x : ℕ) → registerAt at
     → (step w (storing who records at width x) .world ≡ w) × (step w (storing who records at width x) .deliveries ≡ [])
 unfolding effect registerStored runAll run
 doorbell-lost w who records at width x d off =
-    either-way (λ (o : Outcome). (o .world ≡ w) × (o .deliveries ≡ [])) w (storing who records at width x)
-    (rw d (go (memoryOn (peerOf who w)))) (λ n. (refl, refl))
+    either-way (λ (o : Outcome). (o .world ≡ w) × (o .deliveries ≡ [])) w (storing who records at width x) (rw d (go (memoryOn (peerOf who w))))
+    (λ n. (refl, refl))
   where
-    go : (t : Bool) → (runAll who w (cond t (Operation.ringOne (rungPeer x) (rungVector x) ∷ []) []) .world ≡ w)
-        × (runAll who w (cond t (Operation.ringOne (rungPeer x) (rungVector x) ∷ []) []) .deliveries ≡ [])
+    ran : Bool → Ran
+    ran t = runAll who w (cond t (registerStored who (slotAt (w .hub) who) Register.doorbell x) [])
+
+    go : (t : Bool) → (ran t .world ≡ w) × (ran t .deliveries ≡ [])
     go true = rw (ring-lost (w .hub) (rungPeer x) (rungVector x) off) (refl, refl)
     go false = (refl, refl)
 
@@ -239,6 +240,6 @@ unfolding effect registerStored runAll run
 control-quiet w who records at width x d =
     either-way (λ (o : Outcome). o .deliveries ≡ []) w (storing who records at width x) (rw d (go (memoryOn (peerOf who w)))) (λ n. refl)
   where
-    go : (t : Bool) → runAll who w (cond t (Operation.own (withPeer (slotAt (w .hub) who) (withInterrupt (peerOf who w) (bitAnd x 1))) ∷ []) []) .deliveries ≡ []
+    go : (t : Bool) → runAll who w (cond t (registerStored who (slotAt (w .hub) who) Register.interruptControl x) []) .deliveries ≡ []
     go true = refl
     go false = refl
