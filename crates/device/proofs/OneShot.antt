@@ -1,7 +1,7 @@
 -- One-shot mode over a stretch of a history: each call keeps the balance of interrupts, Interrupt Control and the peer's own stores
 -- to it, and so does any list of calls.
 use Prim.Native.Nat.{ℕ, zero, suc, _+_, _≤_, _<_}
-use mathlib.Core.Bool.{Bool, true, false, cond, _&&_}
+use mathlib.Core.Bool.{Bool, true, false, cond}
 use mathlib.Core.List.{List, [], _∷_, _++_}
 use mathlib.Core.Path.{_≡_, refl, sym, ap, subst, _∙_}
 use native.Mathlib.Omega.{arith}
@@ -16,13 +16,12 @@ use Rattle.device.specs.declared.Peer.{Peer}
 use Rattle.device.specs.declared.Settings.{Settings}
 use Rattle.device.specs.Call.{Act, Call, call}
 use Rattle.device.specs.Call.Act.{disconnect, reset, registerWrite}
-use Rattle.device.specs.Effect.{Operation, registerStored, effect, rungPeer, rungVector}
+use Rattle.device.specs.Effect.{registerStored, effect, rungPeer, rungVector}
 use Rattle.device.specs.History.{Observation, start, after, observed, deliveriesTo, answerTo}
-use Rattle.device.specs.OneShot.{peerOf, control, oneShot, throughout, interrupts, turnsAct, turns, one, count, timesSet, timesCleared, OneShot, OneShotHolds}
+use Rattle.device.specs.OneShot.{peerOf, control, oneShot, throughout, interrupts, turnsAct, turns, one, count, timesSet, timesCleared, OneShotHolds}
 use Rattle.device.specs.Refusal.{isConnected, refusal}
 use Rattle.device.specs.Registers.{Register, registerAt, memoryOn}
 use Rattle.device.specs.SetUp.{accepted}
-use Rattle.device.specs.Sizes.{maxPeers}
 use Rattle.device.specs.Sound.{peerFixed, peerReset, inUse, peerSound, slotSound}
 use Rattle.device.specs.Step.{Ran, Outcome, run, runAll, refused, done, effectIn, step}
 use Rattle.device.specs.Window.{isAccepted}

@@ -13,7 +13,6 @@ use lib.Seq.{getD-set-same}
 use Rattle.common.specs.Bytes.{bit}
 use Rattle.common.specs.Tests.{every}
 use Rattle.common.proofs.TestLaws.{by-equal, every-true}
-use Rattle.device.specs.declared.Delivery.{Delivery}
 use Rattle.device.specs.declared.Entry.{Entry}
 use Rattle.device.specs.declared.Gate.{Gate}
 use Rattle.device.specs.declared.Peer.{Peer}

@@ -8,6 +8,7 @@ use model::call::Call;
 use model::compare::{self, Failure};
 use model::hub::{Block, Hub, Ring};
 use model::layout::{decode, encode};
+use model::one_shot;
 use model::subject::{Answer, Lent, Model, Subject};
 
 /// A model and what goes wrong with it.
@@ -54,16 +55,49 @@ where
     assert!(compare::replay(subject(), &failure.events).is_some(), "{name}: the cut history fails by itself");
 }
 
+/// Runs until the balance of one-shot mode is found broken, and prints where.
+fn is_out_of_balance(name: &str, slip: fn(&mut Model, &Call, Lent<'_>) -> Answer) {
+    let text = one_shot::run(|| Wrong { model: Model::default(), slip }, 3, 200_000).expect_err(name);
+    println!("{name}: {text}\n");
+}
+
+fn clear_at_the_sender(model: &mut Model, call: &Call, lent: Lent<'_>) -> Answer {
+    right_then(model, call, lent, |hub, rings, _| {
+        let (Call::RegisterWrite { id, .. }, [Ring::Delivered(delivery, true)]) = (call, rings) else { return };
+        hub.peers[delivery.target.0 as usize].interrupt = 1;
+        hub.peers[*id as usize].interrupt = 0;
+    })
+}
+
 #[test]
 fn clears_the_senders_bit() {
-    is_found("one-shot clears the sender's bit", 10, || {
-        |model: &mut Model, call: &Call, lent: Lent<'_>| {
-            right_then(model, call, lent, |hub, rings, _| {
-                let (Call::RegisterWrite { id, .. }, [Ring::Delivered(delivery, true)]) = (call, rings) else { return };
-                hub.peers[delivery.target.0 as usize].interrupt = 1;
-                hub.peers[*id as usize].interrupt = 0;
-            })
-        }
+    is_found("one-shot clears the sender's bit", 10, || clear_at_the_sender);
+    is_out_of_balance("one-shot clears the sender's bit", clear_at_the_sender);
+}
+
+#[test]
+fn clears_nothing() {
+    is_out_of_balance("one-shot does not clear", |model, call, lent| {
+        right_then(model, call, lent, |hub, rings, _| {
+            for ring in rings {
+                if let Ring::Delivered(delivery, true) = ring {
+                    hub.peers[delivery.target.0 as usize].interrupt = 1;
+                }
+            }
+        })
+    });
+}
+
+#[test]
+fn sets_the_targets_bit() {
+    is_out_of_balance("a lost ring sets Interrupt Control", |model, call, lent| {
+        right_then(model, call, lent, |hub, rings, _| {
+            if let (Call::RegisterWrite { offset: 0x0c, value, .. }, [Ring::Lost(blocks)]) = (call, rings)
+                && *blocks == [Block::InterruptControlOff]
+            {
+                hub.peers[(value >> 16) as usize].interrupt = 1;
+            }
+        })
     });
 }
 

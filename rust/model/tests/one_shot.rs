@@ -1,0 +1,29 @@
+//! One-shot mode on the linked library: over every stretch of random histories in which a peer has it on, the balance of
+//! interrupts and the peer's own stores to Interrupt Control. It is proved; this checks the same across the boundary.
+
+use std::io::Write;
+use std::time::Instant;
+
+use model::one_shot;
+use model::subject::Library;
+
+#[test]
+fn interrupts_balance_own_stores() {
+    const CALLS: u64 = 2_000_000;
+    let start = Instant::now();
+    let tally = match one_shot::run(|| Library, 19, CALLS) {
+        Ok(tally) => tally,
+        Err(text) => panic!("{text}"),
+    };
+    // Printed past the test's capture, so that every run shows it.
+    let _ = writeln!(std::io::stdout().lock(), "{tally}\n{:.1} s", start.elapsed().as_secs_f64());
+    assert!(tally.calls >= CALLS);
+    assert!(tally.stretches >= 10_000);
+    assert!(tally.checks >= 1_000_000);
+    assert!(tally.interrupts >= 15_000);
+    assert!(tally.sets >= 15_000);
+    assert!(tally.clears >= 1_500);
+    assert!(tally.reached.iter().all(|&stretches| stretches >= 1_500));
+    // Without one-shot there is no such bound, so the check says something.
+    assert!(tally.exceeded >= 5_000);
+}
