@@ -162,6 +162,15 @@ answer-silent b c o = go (eqb (c .who) b)
     go true = refl
     go false = refl
 
+-- the interrupts of a call and of those after it
+pub observed-more : (b : ℕ) (w : World) (c : Call) (cs : List Call)
+    → interrupts (observed b w (c ∷ cs)) ≡ interrupts (deliveriesTo b (step w c .deliveries)) + interrupts (observed b (step w c .world) cs)
+unfolding observed
+observed-more b w c cs =
+    let ds : List Observation = deliveriesTo b (step w c .deliveries) in
+    let os : List Observation = observed b (step w c .world) cs in
+    rw (interrupts-both (answerTo b c (step w c)) (ds ++ os), interrupts-both ds os, answer-silent b c (step w c)) (omega arith)
+
 at-start : (b : ℕ) (w : World) (cs : List Call) → throughout b w cs ≡ true → oneShot b w ≡ true
 unfolding throughout
 at-start b w [] e = e
@@ -181,13 +190,7 @@ module _ (s : Settings) (a : accepted s ≡ true) (b : ℕ) where
       let later : throughout b (step w c .world) cs ≡ true = and-right (oneShot b w) _ e in
       let here = call-balanced s w f b (and-left (oneShot b w) _ e) c (at-start b (step w c .world) cs later) in
       let rest = balanced (step w c .world) cs (step-fit s w c a f) later in
-      let os : List Observation = observed b (step w c .world) cs in
-      rw (
-        interrupts-both (answerTo b c (step w c)) (deliveriesTo b (step w c .deliveries) ++ os),
-        interrupts-both (deliveriesTo b (step w c .deliveries)) os,
-        answer-silent b c (step w c),
-      )
-      (omega arith)
+      rw (observed-more b w c cs) (omega arith)
 
 bit-one : (n : ℕ) → n ≤ 1 → n ≡ one (eqb n 1)
 bit-one zero h = refl

@@ -1,19 +1,20 @@
 -- One-shot mode says something: stretches in which the bound is reached, from Interrupt Control 1 and from 0; the same calls with
 -- one-shot off, where it is exceeded; and a ring that is lost and does not come later. Peer 1 rings at peer 0, in the hub of
 -- IsolationExamples.
-use Prim.Native.Nat.{ℕ, _≤_}
-use mathlib.Core.Bool.{Bool, true, false}
+use Prim.Native.Nat.{ℕ, _+_}
+use mathlib.Core.Bool.{Bool, true, false, _&&_}
 use mathlib.Core.List.{List, [], _∷_, _++_}
-use mathlib.Core.Path.{_≡_, refl}
+use mathlib.Core.Path.{_≡_, refl, ap, _∙_}
 use native.Mathlib.Omega.{arith}
 use Rattle.device.specs.Call.{Call, call}
 use Rattle.device.specs.Call.Act.{configurationWrite, registerWrite, reset}
-use Rattle.device.specs.History.{start, after, observed}
-use Rattle.device.specs.OneShot.{control, oneShot, throughout, interrupts, turnsRegister, turnsAct, turns, count, timesSet, timesCleared, OneShot}
-use Rattle.device.specs.Step.{step}
+use Rattle.device.specs.History.{start, after, observed, deliveriesTo}
+use Rattle.device.specs.OneShot.{control, oneShot, throughout, interrupts, turnsRegister, turnsAct, turns, one, count, timesSet, timesCleared, OneShot}
+use Rattle.device.specs.Registers.{registerAt}
+use Rattle.device.specs.Step.{Outcome, step}
 use Rattle.device.specs.World.{World}
 use Rattle.device.proofs.IsolationExamples.{numbers, ready, bell, computing}
-use Rattle.device.proofs.OneShot.{doorbell-lost}
+use Rattle.device.proofs.OneShot.{observed-more, doorbell-lost}
 
 -- after `ready` Interrupt Control of peer 0 is 1; then it turns one-shot on
 abbrev pub armed : List Call
@@ -36,61 +37,105 @@ twice = bell ∷ bell ∷ []
 abbrev pub again : List Call
 again = set ∷ bell ∷ bell ∷ set ∷ bell ∷ []
 
--- A stretch after other calls: whether one-shot is on throughout, and the five numbers of the balance: interrupts, Interrupt Control
--- at the end, own clears, own sets, Interrupt Control at the start.
-pub record Case : Type 0 where
-  pub before : List Call
-  pub stretch : List Call
-  pub on : Bool
-  pub counts : List ℕ
-
-abbrev case : List Call → List Call → Bool → List ℕ → Case
-case before stretch on counts = record { before = before; stretch = stretch; on = on; counts = counts }
-
 abbrev pub from : List Call → World
 from before = after (start numbers) before
 
-abbrev counted : World → List Call → List ℕ
-counted w cs = interrupts (observed 0 w cs) ∷ control 0 (after w cs) ∷ timesCleared 0 w cs ∷ timesSet 0 w cs ∷ control 0 w ∷ []
+-- Of a stretch of peer 0: whether one-shot is on throughout, and the five numbers of the balance, which are interrupts, Interrupt
+-- Control at the end, own clears, own sets and Interrupt Control at the start.
+pub record Counts : Type 0 where
+  pub on : Bool
+  pub got : ℕ
+  pub left : ℕ
+  pub cleared : ℕ
+  pub set : ℕ
+  pub began : ℕ
+
+abbrev counts : Bool → (got left cleared set began : ℕ) → Counts
+counts on got left cleared set began =
+    record { on = on; got = got; left = left; cleared = cleared; set = set; began = began }
+
+abbrev pub countsOf : World → List Call → Counts
+countsOf w cs =
+    counts (throughout 0 w cs) (interrupts (observed 0 w cs)) (control 0 (after w cs)) (timesCleared 0 w cs) (timesSet 0 w cs)
+    (control 0 w)
+
+pub record Case : Type 0 where
+  pub before : List Call
+  pub stretch : List Call
+  pub says : Counts
+
+abbrev case : List Call → List Call → Counts → Case
+case before stretch says = record { before = before; stretch = stretch; says = says }
+
+abbrev pub Right : List Case → Type 0
+Right [] = Unit {0}
+Right (c ∷ cs) = (countsOf (from (c .before)) (c .stretch) ≡ c .says) × Right cs
 
 pub cases : List Case
 cases =
     -- the bound is reached from 1: two rings, one interrupt
-    case armed twice true (1 ∷ 0 ∷ 0 ∷ 0 ∷ 1 ∷ [])
+    case armed twice (counts true 1 0 0 0 1)
     -- and from 0: two sets, three rings, two interrupts
-    ∷ case disarmed again true (2 ∷ 0 ∷ 0 ∷ 2 ∷ 0 ∷ [])
-    -- a clear of the peer's own, and Interrupt Control left at 1: no number is 0
-    ∷ case armed (clear ∷ set ∷ bell ∷ set ∷ []) true (1 ∷ 1 ∷ 1 ∷ 2 ∷ 1 ∷ [])
+    ∷ case disarmed again (counts true 2 0 0 2 0)
+    -- the first calls again with one-shot off: two interrupts
+    ∷ case ready twice (counts false 2 1 0 0 1)
     -- a ring at Interrupt Control 0 does not come when it is set
-    ∷ case disarmed (bell ∷ set ∷ []) true (0 ∷ 1 ∷ 0 ∷ 1 ∷ 0 ∷ [])
+    ∷ case disarmed (bell ∷ set ∷ []) (counts true 0 1 0 1 0)
+    -- a clear of the peer's own, and Interrupt Control left at 1: no number is 0
+    ∷ case armed (clear ∷ set ∷ bell ∷ set ∷ []) (counts true 1 1 1 2 1)
     -- a refused reset, here with a table that is too short, neither ends a stretch nor counts
-    ∷ case armed (bell ∷ call 0 (reset 2) ∷ bell ∷ []) true (1 ∷ 0 ∷ 0 ∷ 0 ∷ 1 ∷ [])
-    -- the same calls as at first with one-shot off: two interrupts
-    ∷ case ready twice false (2 ∷ 1 ∷ 0 ∷ 0 ∷ 1 ∷ [])
-    -- a reset turns it off
-    ∷ case armed (call 0 (reset 3) ∷ []) false (0 ∷ 0 ∷ 0 ∷ 0 ∷ 1 ∷ [])
+    ∷ case armed (bell ∷ call 0 (reset 2) ∷ bell ∷ []) (counts true 1 0 0 0 1)
+    -- an accepted one turns one-shot off
+    ∷ case armed (call 0 (reset 3) ∷ []) (counts false 0 0 0 0 1)
     ∷ []
 
-abbrev pub Right : List Case → Type 0
-Right [] = Unit {0}
-Right (c ∷ cs) =
-    (throughout 0 (from (c .before)) (c .stretch) ≡ c .on) × (counted (from (c .before)) (c .stretch) ≡ c .counts) × Right cs
+-- The counts in one walk over the stretch, so that each call is computed once.
 
--- all that the examples compute with
-computing-stretches : Unit {0}
-unfolding computing cases after oneShot throughout interrupts turnsRegister turnsAct turns count
-computing-stretches = tt
+joined : World → Call → Outcome → Counts → Counts
+joined w c o rest =
+    counts (oneShot 0 w && rest .on) (interrupts (deliveriesTo 0 (o .deliveries)) + rest .got) (rest .left)
+    (one (turns 1 0 0 w c) + rest .cleared) (one (turns 0 1 0 w c) + rest .set) (control 0 w)
+
+added : World → Call → Outcome → (World → Counts) → Counts
+unfolding joined
+added w c o later = joined w c o (later (o .world))
+
+walk : List Call → World → Counts
+walk [] = λ w. counts (oneShot 0 w) 0 (control 0 w) 0 0 (control 0 w)
+walk (c ∷ cs) = λ w. added w c (step w c) (walk cs)
+
+walked : (cs : List Call) (w : World) → countsOf w cs ≡ walk cs w
+unfolding throughout observed after count interrupts walk added joined
+walked [] w = refl
+walked (c ∷ cs) w =
+    ap (λ (n : ℕ). counts (throughout 0 w (c ∷ cs)) n (control 0 (after w (c ∷ cs))) (timesCleared 0 w (c ∷ cs)) (timesSet 0 w (c ∷ cs)) (control 0 w))
+    (observed-more 0 w c cs)
+    ∙ ap (λ (rest : Counts). joined w c (step w c) rest) (walked cs (step w c .world))
+
+abbrev Walked : List Case → Type 0
+Walked [] = Unit {0}
+Walked (c ∷ cs) = (walk (c .stretch) (from (c .before)) ≡ c .says) × Walked cs
+
+right : (cs : List Case) → Walked cs → Right cs
+right [] h = tt
+right (c ∷ cs) h = (walked (c .stretch) (from (c .before)) ∙ h .0, right cs (h .1))
 
 pub stretches : Right cases
-unfolding computing-stretches
-stretches = (refl, refl, (refl, refl, (refl, refl, (refl, refl, (refl, refl, (refl, refl, (refl, refl, tt)))))))
+unfolding computing cases after oneShot interrupts turnsRegister turnsAct turns walk added joined
+stretches = right cases (refl, (refl, (refl, (refl, (refl, (refl, (refl, tt)))))))
 
 -- One-shot is needed: with it off, two rings exceed the bound.
 pub exceeded : OneShot 0 (from ready) twice → ⊥
-unfolding computing-stretches
-exceeded h = let two : 2 ≤ 1 = h .bound in omega arith
+unfolding cases
+exceeded h =
+    let e : countsOf (from ready) twice ≡ counts false 2 1 0 0 1 = stretches .1 .1 .0 in
+    let got = ap (λ (k : Counts). k .got) e in
+    let set = ap (λ (k : Counts). k .set) e in
+    let began = ap (λ (k : Counts). k .began) e in
+    let bound = rw began at (h .bound) in
+    omega arith
 
 -- A ring at Interrupt Control 0 leaves no trace: the world is as it was, and nothing was delivered.
 pub lost : (step (from disarmed) bell .world ≡ from disarmed) × (step (from disarmed) bell .deliveries ≡ [])
-unfolding computing-stretches
-lost = doorbell-lost (from disarmed) 1 3 0x0C 4 0x00000000 refl refl
+unfolding cases registerAt
+lost = doorbell-lost (from disarmed) 1 3 0x0C 4 0x00000000 refl (ap (λ (k : Counts). k .began) (stretches .1 .0))
