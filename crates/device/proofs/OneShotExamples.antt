@@ -59,34 +59,42 @@ countsOf w cs =
     counts (throughout 0 w cs) (interrupts (observed 0 w cs)) (control 0 (after w cs)) (timesCleared 0 w cs) (timesSet 0 w cs)
     (control 0 w)
 
+-- a stretch, and what its counts are
 pub record Case : Type 0 where
-  pub before : List Call
   pub stretch : List Call
   pub says : Counts
 
-abbrev case : List Call → List Call → Counts → Case
-case before stretch says = record { before = before; stretch = stretch; says = says }
+abbrev case : List Call → Counts → Case
+case stretch says = record { stretch = stretch; says = says }
 
-abbrev pub Right : List Case → Type 0
-Right [] = Unit {0}
-Right (c ∷ cs) = (countsOf (from (c .before)) (c .stretch) ≡ c .says) × Right cs
+abbrev pub Right : World → List Case → Type 0
+Right w [] = Unit {0}
+Right w (c ∷ cs) = (countsOf w (c .stretch) ≡ c .says) × Right w cs
 
-pub cases : List Case
-cases =
-    -- the bound is reached from 1: two rings, one interrupt
-    case armed twice (counts true 1 0 0 0 1)
-    -- and from 0: two sets, three rings, two interrupts
-    ∷ case disarmed again (counts true 2 0 0 2 0)
-    -- the first calls again with one-shot off: two interrupts
-    ∷ case ready twice (counts false 2 1 0 0 1)
-    -- a ring at Interrupt Control 0 does not come when it is set
-    ∷ case disarmed (bell ∷ set ∷ []) (counts true 0 1 0 1 0)
+pub fromOne : List Case
+fromOne =
+    -- the bound is reached: two rings, one interrupt
+    case twice (counts true 1 0 0 0 1)
     -- a clear of the peer's own, and Interrupt Control left at 1: no number is 0
-    ∷ case armed (clear ∷ set ∷ bell ∷ set ∷ []) (counts true 1 1 1 2 1)
+    ∷ case (clear ∷ set ∷ bell ∷ set ∷ []) (counts true 1 1 1 2 1)
     -- a refused reset, here with a table that is too short, neither ends a stretch nor counts
-    ∷ case armed (bell ∷ call 0 (reset 2) ∷ bell ∷ []) (counts true 1 0 0 0 1)
+    ∷ case (bell ∷ call 0 (reset 2) ∷ bell ∷ []) (counts true 1 0 0 0 1)
     -- an accepted one turns one-shot off
-    ∷ case armed (call 0 (reset 3) ∷ []) (counts false 0 0 0 0 1)
+    ∷ case (call 0 (reset 3) ∷ []) (counts false 0 0 0 0 1)
+    ∷ []
+
+pub fromZero : List Case
+fromZero =
+    -- the bound is reached: two sets, three rings, two interrupts
+    case again (counts true 2 0 0 2 0)
+    -- a ring at Interrupt Control 0 does not come when it is set
+    ∷ case (bell ∷ set ∷ []) (counts true 0 1 0 1 0)
+    ∷ []
+
+pub withoutOneShot : List Case
+withoutOneShot =
+    -- two rings, two interrupts
+    case twice (counts false 2 1 0 0 1)
     ∷ []
 
 -- The counts in one walk over the stretch, so that each call is computed once.
@@ -112,23 +120,45 @@ walked (c ∷ cs) w =
     (observed-more 0 w c cs)
     ∙ ap (λ (rest : Counts). joined w c (step w c) rest) (walked cs (step w c .world))
 
-abbrev Walked : List Case → Type 0
-Walked [] = Unit {0}
-Walked (c ∷ cs) = (walk (c .stretch) (from (c .before)) ≡ c .says) × Walked cs
+-- all walks of a list from one world, so that the calls before them are computed once too
+walks : World → List Case → List Counts
+walks w [] = []
+walks w (c ∷ cs) = walk (c .stretch) w ∷ walks w cs
 
-right : (cs : List Case) → Walked cs → Right cs
-right [] h = tt
-right (c ∷ cs) h = (walked (c .stretch) (from (c .before)) ∙ h .0, right cs (h .1))
+said : List Case → List Counts
+said [] = []
+said (c ∷ cs) = c .says ∷ said cs
 
-pub stretches : Right cases
-unfolding computing cases after oneShot interrupts turnsRegister turnsAct turns walk added joined
-stretches = right cases (refl, (refl, (refl, (refl, (refl, (refl, (refl, tt)))))))
+right : (w : World) (cs : List Case) → walks w cs ≡ said cs → Right w cs
+unfolding walks said
+right w [] e = tt
+right w (c ∷ cs) e =
+    let here : walk (c .stretch) w ≡ c .says = cc in
+    let rest : walks w cs ≡ said cs = cc in
+    (walked (c .stretch) w ∙ here, right w cs rest)
 
--- One-shot is needed: with it off, two rings exceed the bound.
+-- all that the examples compute with
+computing-walks : Unit {0}
+unfolding computing after oneShot interrupts turnsRegister turnsAct turns walk added joined walks said
+computing-walks = tt
+
+pub from-one : Right (from armed) fromOne
+unfolding computing-walks fromOne
+from-one = right (from armed) fromOne refl
+
+pub from-zero : Right (from disarmed) fromZero
+unfolding computing-walks fromZero
+from-zero = right (from disarmed) fromZero refl
+
+pub without-one-shot : Right (from ready) withoutOneShot
+unfolding computing-walks withoutOneShot
+without-one-shot = right (from ready) withoutOneShot refl
+
+-- One-shot is needed: with it off, the two rings that gave one interrupt with it on exceed the bound.
 pub exceeded : OneShot 0 (from ready) twice → ⊥
-unfolding cases
+unfolding withoutOneShot
 exceeded h =
-    let e : countsOf (from ready) twice ≡ counts false 2 1 0 0 1 = stretches .1 .1 .0 in
+    let e : countsOf (from ready) twice ≡ counts false 2 1 0 0 1 = without-one-shot .0 in
     let got = ap (λ (k : Counts). k .got) e in
     let set = ap (λ (k : Counts). k .set) e in
     let began = ap (λ (k : Counts). k .began) e in
@@ -137,5 +167,5 @@ exceeded h =
 
 -- A ring at Interrupt Control 0 leaves no trace: the world is as it was, and nothing was delivered.
 pub lost : (step (from disarmed) bell .world ≡ from disarmed) × (step (from disarmed) bell .deliveries ≡ [])
-unfolding cases registerAt
-lost = doorbell-lost (from disarmed) 1 3 0x0C 4 0x00000000 refl (ap (λ (k : Counts). k .began) (stretches .1 .0))
+unfolding fromZero registerAt
+lost = doorbell-lost (from disarmed) 1 3 0x0C 4 0x00000000 refl (ap (λ (k : Counts). k .began) (from-zero .0))
