@@ -1,5 +1,5 @@
 //! Wrong models, each with one slip that prototypes are known to make: the harness must find every one and cut the history
-//! short.
+//! short, and those of one-shot mode must be found out of balance.
 
 use std::collections::HashMap;
 
