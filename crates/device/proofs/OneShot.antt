@@ -18,7 +18,7 @@ use Rattle.device.specs.Call.{Act, Call, call}
 use Rattle.device.specs.Call.Act.{disconnect, reset, registerWrite}
 use Rattle.device.specs.Effect.{registerStored, effect, rungPeer, rungVector}
 use Rattle.device.specs.History.{Observation, start, after, observed, deliveriesTo, answerTo}
-use Rattle.device.specs.OneShot.{peerOf, control, oneShot, throughout, interrupts, turnsAct, turns, one, count, timesSet, timesCleared, OneShotHolds}
+use Rattle.device.specs.OneShot.{peerOf, interruptControl, oneShot, throughout, interrupts, turnsAct, turns, one, count, timesSet, timesCleared, OneShotLimits}
 use Rattle.device.specs.Refusal.{isConnected, refusal}
 use Rattle.device.specs.Registers.{Register, registerAt, memoryOn}
 use Rattle.device.specs.SetUp.{accepted}
@@ -29,11 +29,11 @@ use Rattle.device.specs.World.{Slot, World, zeroSlot, resetSlot, slotAt}
 use Rattle.device.proofs.FixedLaws.{fixed-facts}
 use Rattle.device.proofs.HistoryLaws.{Fit, start-fit, step-fit}
 use Rattle.device.proofs.KeepingLaws.{Frame}
-use Rattle.device.proofs.OneShotLaws.{interrupts-both, ring-lost, Settled, Kept, First, Left, rings-settle, own-left, announces-first, effect-first}
+use Rattle.device.proofs.OneShotLaws.{interrupts-both, nothing-kept, Settled, Kept, First, Left, rings-settle, own-left, announces-first, effect-first}
 use Rattle.device.proofs.SeenLaws.{Sight, view, sight, reach, all-seen}
 use Rattle.device.proofs.StepLaws.{never, accepted-effect, refused-changes-nothing}
 
--- Interrupt Control is 0 or 1 in every sound slot.
+-- Interrupt Control is 0 or 1 in every sound slot, and so in every world of a history.
 sound-control : (s : Settings) (i : ℕ) (slot : Slot) → slotSound s i slot ≡ true → slot .peer .interrupt ≤ 1
 unfolding slotSound peerSound peerReset
 sound-control s i slot e = go (inUse s i (slot .peer)) (and-left (peerSound s i (slot .peer)) _ e)
@@ -45,23 +45,33 @@ sound-control s i slot e = go (inUse s i (slot .peer)) (and-left (peerSound s i 
         omega (arith, and-le-r i 1)
     go false f = omega (arith, eqb-true (slot .peer .interrupt) 0 (every-true _ f 6))
 
+by-slot : {P : Type 0} (w : World) (b : ℕ) → (b < length (w .hub .slots) → P) → (slotAt (w .hub) b ≡ zeroSlot → P) → P
+by-slot {P} w b has none = go (ltb b (length (w .hub .slots))) refl
+  where
+    go : (t : Bool) → ltb b (length (w .hub .slots)) ≡ t → P
+    go true e = has (ltb-true b (length (w .hub .slots)) e)
+    go false e = none (List·getD-eq-default (w .hub .slots) zeroSlot (ltb-false b (length (w .hub .slots)) e))
+
+pub control-bit : (s : Settings) (w : World) → Fit s w → (b : ℕ) → interruptControl b w ≤ 1
+unfolding zeroSlot
+control-bit s w f b =
+    by-slot w b
+    (λ (l : b < length (w .hub .slots)). sound-control s b (slotAt (w .hub) b) (f .slots b (rw (ap (λ (x : Frame). x .slots) (f .fixed)) at l)))
+    (λ (none : slotAt (w .hub) b ≡ zeroSlot).
+    let off : interruptControl b w ≡ 0 = ap (λ (slot : Slot). slot .peer .interrupt) none in
+    omega arith)
+
 -- a connected peer's id has a slot
 has-slot : (w : World) (b : ℕ) → isConnected w b ≡ true → b < length (w .hub .slots)
 unfolding isConnected zeroSlot
-has-slot w b c = go (ltb b (length (w .hub .slots))) refl
-  where
-    go : (t : Bool) → ltb b (length (w .hub .slots)) ≡ t → b < length (w .hub .slots)
-    go true e = ltb-true _ _ e
-    go false e =
-        let none : slotAt (w .hub) b ≡ zeroSlot = List·getD-eq-default (w .hub .slots) zeroSlot (ltb-false _ _ e) in
-        never (rw none at c)
+has-slot w b c = by-slot w b (λ l. l) (λ (none : slotAt (w .hub) b ≡ zeroSlot). never (rw none at c))
 
 -- One call, in a world of a history, of a peer that has one-shot on before and after it.
 
 abbrev Balanced : ℕ → World → Call → Type 0
 Balanced b w c =
-    interrupts (deliveriesTo b (step w c .deliveries)) + control b (step w c .world) + one (turns 1 0 b w c)
-    ≡ one (turns 0 1 b w c) + control b w
+    interrupts (deliveriesTo b (step w c .deliveries)) + interruptControl b (step w c .world) + one (turns 1 0 b w c)
+    ≡ one (turns 0 1 b w c) + interruptControl b w
 
 -- what the peer sees of it
 abbrev seenOf : ℕ → Outcome → Sight
@@ -76,8 +86,8 @@ module _ (s : Settings) (w : World) (f : Fit s w) (b : ℕ) (before : oneShot b 
   unfolding oneShot
   mode = and-right (isConnected w b) _ before
 
-  pub control-bit : control b w ≤ 1
-  control-bit = sound-control s b (slotAt (w .hub) b) (f .slots b (rw (ap (λ (x : Frame). x .slots) (f .fixed)) at near))
+  small : interruptControl b w ≤ 1
+  small = control-bit s w f b
 
   taken-sight : (c : Call) → refusal w c ≡ 0 → (mine : Bool) → eqb (c .who) b ≡ mine
       → seenOf b (step w c) ≡ sight b (runAll b w (reach b mine (effectIn w c .operations)))
@@ -105,7 +115,7 @@ module _ (s : Settings) (w : World) (f : Fit s w) (b : ℕ) (before : oneShot b 
   others-call : (c : Call) → (c .who ≡ b → ⊥) → refusal w c ≡ 0 → Balanced b w c
   others-call c d r =
       let settled = rings-settle b false (effectIn w c .operations) (λ e. never e) w near in
-      let level = subst (λ (x : Sight). Settled (slotAt (w .hub) b) x) (sym (taken-sight c r false (ne-eqb (c .who) b d))) settled .level mode control-bit in
+      let level = subst (λ (x : Sight). Settled (slotAt (w .hub) b) x) (sym (taken-sight c r false (ne-eqb (c .who) b d))) settled .level mode small in
       rw (turns-other 1 0 c d, turns-other 0 1 c d) (omega arith)
 
   own-sight : (P : Slot → Type 0) (a : Act) → refusal w (call b a) ≡ 0
@@ -120,7 +130,7 @@ module _ (s : Settings) (w : World) (f : Fit s w) (b : ℕ) (before : oneShot b 
       let p : Peer = peerOf b w in
       let left = own-sight (Kept p (turnsAct 0 1 p a) (turnsAct 1 0 p a)) a r (effect-first (w .hub .settings) b (slotAt (w .hub) b) (w .region) a) in
       let on : bit 0 (left .slot .peer .privileged) ≡ true = rw (left .settled .mode) at (and-right (isConnected (step w (call b a) .world) b) _ later) in
-      let kept = left .holds control-bit on in
+      let kept = left .holds small on in
       let level = left .settled .level on (kept .0) in
       rw (turns-own 1 0 (call b a) refl r, turns-own 0 1 (call b a) refl r) (omega (arith, kept .1))
 
@@ -176,14 +186,15 @@ unfolding throughout
 at-start b w [] e = e
 at-start b w (c ∷ cs) e = and-left (oneShot b w) _ e
 
-module _ (s : Settings) (a : accepted s ≡ true) (b : ℕ) where
-  after-fit : (w : World) (cs : List Call) → Fit s w → Fit s (after w cs)
+module _ (s : Settings) (a : accepted s ≡ true) where
+  pub after-fit : (w : World) (cs : List Call) → Fit s w → Fit s (after w cs)
   unfolding after
   after-fit w [] f = f
   after-fit w (c ∷ cs) f = after-fit (step w c .world) cs (step-fit s w c a f)
 
+module _ (s : Settings) (a : accepted s ≡ true) (b : ℕ) where
   balanced : (w : World) (cs : List Call) → Fit s w → throughout b w cs ≡ true
-      → interrupts (observed b w cs) + control b (after w cs) + timesCleared b w cs ≡ timesSet b w cs + control b w
+      → interrupts (observed b w cs) + interruptControl b (after w cs) + timesCleared b w cs ≡ timesSet b w cs + interruptControl b w
   unfolding observed after count interrupts throughout
   balanced w [] f e = omega arith
   balanced w (c ∷ cs) f e =
@@ -197,20 +208,20 @@ bit-one zero h = refl
 bit-one (suc zero) h = refl
 bit-one (suc (suc n)) h = absurd (omega arith)
 
-pub one-shot-holds : OneShotHolds
-one-shot-holds s a b before stretch e =
+pub one-shot-limits : OneShotLimits
+one-shot-limits s a b before stretch e =
     let w : World = after (start s) before in
-    let f : Fit s w = after-fit s a b (start s) before (start-fit s) in
+    let f : Fit s w = after-fit s a (start s) before (start-fit s) in
     let balance = balanced s a b w stretch f e in
-    let small = control-bit s w f b (at-start b w stretch e) in
+    let small = control-bit s w f b in
     record {
       balance = balance;
-      bound = omega (arith, bit-one (control b w) small);
+      bound = omega (arith, bit-one (interruptControl b w) small);
       single = λ none. omega arith;
     }
 
--- Nothing is kept: a doorbell at a peer whose Interrupt Control is 0 leaves the world as it was, so that nothing can come of it
--- later, and a store to Interrupt Control delivers nothing.
+-- Nothing is kept, by calls: a doorbell at a peer whose Interrupt Control is 0 leaves the world as it was, and a store to Interrupt
+-- Control delivers nothing.
 
 either-way : (P : Outcome → Type 0) (w : World) (c : Call) → P (done (effectIn w c) (runAll (c .who) w (effectIn w c .operations)))
     → ((n : ℕ) → P (refused n w)) → P (step w c)
@@ -222,7 +233,7 @@ either-way P w c taken not-taken =
 abbrev storing : (who records at width x : ℕ) → Call
 storing who records at width x = call who (registerWrite records at width x)
 
-pub doorbell-lost : (w : World) (who records at width x : ℕ) → registerAt at ≡ Register.doorbell → control (rungPeer x .0) w ≡ 0
+pub doorbell-lost : (w : World) (who records at width x : ℕ) → registerAt at ≡ Register.doorbell → interruptControl (rungPeer x .0) w ≡ 0
     → (step w (storing who records at width x) .world ≡ w) × (step w (storing who records at width x) .deliveries ≡ [])
 unfolding effect registerStored runAll run
 doorbell-lost w who records at width x d off =
@@ -233,7 +244,7 @@ doorbell-lost w who records at width x d off =
     ran t = runAll who w (cond t (registerStored who (slotAt (w .hub) who) Register.doorbell x) [])
 
     go : (t : Bool) → (ran t .world ≡ w) × (ran t .deliveries ≡ [])
-    go true = rw (ring-lost (w .hub) (rungPeer x) (rungVector x) off) (refl, refl)
+    go true = rw (nothing-kept (w .hub) (rungPeer x) (rungVector x) off) (refl, refl)
     go false = (refl, refl)
 
 pub control-quiet : (w : World) (who records at width x : ℕ) → registerAt at ≡ Register.interruptControl

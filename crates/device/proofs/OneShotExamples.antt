@@ -9,7 +9,7 @@ use native.Mathlib.Omega.{arith}
 use Rattle.device.specs.Call.{Call, call}
 use Rattle.device.specs.Call.Act.{configurationWrite, registerWrite, reset}
 use Rattle.device.specs.History.{start, after, observed, deliveriesTo}
-use Rattle.device.specs.OneShot.{control, oneShot, throughout, interrupts, turnsRegister, turnsAct, turns, one, count, timesSet, timesCleared, OneShot}
+use Rattle.device.specs.OneShot.{interruptControl, oneShot, throughout, interrupts, turnsRegister, turnsAct, turns, one, count, timesSet, timesCleared, Limited}
 use Rattle.device.specs.Registers.{registerAt}
 use Rattle.device.specs.Step.{Outcome, step}
 use Rattle.device.specs.World.{World}
@@ -34,8 +34,8 @@ clear = call 0 (registerWrite 3 0x08 4 0)
 abbrev pub twice : List Call
 twice = bell ∷ bell ∷ []
 
-abbrev pub again : List Call
-again = set ∷ bell ∷ bell ∷ set ∷ bell ∷ []
+abbrev pub twoSets : List Call
+twoSets = set ∷ bell ∷ bell ∷ set ∷ bell ∷ []
 
 abbrev pub from : List Call → World
 from before = after (start numbers) before
@@ -56,8 +56,8 @@ counts on got left cleared set began =
 
 abbrev pub countsOf : World → List Call → Counts
 countsOf w cs =
-    counts (throughout 0 w cs) (interrupts (observed 0 w cs)) (control 0 (after w cs)) (timesCleared 0 w cs) (timesSet 0 w cs)
-    (control 0 w)
+    counts (throughout 0 w cs) (interrupts (observed 0 w cs)) (interruptControl 0 (after w cs)) (timesCleared 0 w cs) (timesSet 0 w cs)
+    (interruptControl 0 w)
 
 -- a stretch, and what its counts are
 pub record Case : Type 0 where
@@ -86,7 +86,7 @@ fromOne =
 pub fromZero : List Case
 fromZero =
     -- the bound is reached: two sets, three rings, two interrupts
-    case again (counts true 2 0 0 2 0)
+    case twoSets (counts true 2 0 0 2 0)
     -- a ring at Interrupt Control 0 does not come when it is set
     ∷ case (bell ∷ set ∷ []) (counts true 0 1 0 1 0)
     ∷ []
@@ -99,26 +99,26 @@ withoutOneShot =
 
 -- The counts in one walk over the stretch, so that each call is computed once.
 
-joined : World → Call → Outcome → Counts → Counts
-joined w c o rest =
+withCall : World → Call → Outcome → Counts → Counts
+withCall w c o rest =
     counts (oneShot 0 w && rest .on) (interrupts (deliveriesTo 0 (o .deliveries)) + rest .got) (rest .left)
-    (one (turns 1 0 0 w c) + rest .cleared) (one (turns 0 1 0 w c) + rest .set) (control 0 w)
+    (one (turns 1 0 0 w c) + rest .cleared) (one (turns 0 1 0 w c) + rest .set) (interruptControl 0 w)
 
 added : World → Call → Outcome → (World → Counts) → Counts
-unfolding joined
-added w c o later = joined w c o (later (o .world))
+unfolding withCall
+added w c o later = withCall w c o (later (o .world))
 
 walk : List Call → World → Counts
-walk [] = λ w. counts (oneShot 0 w) 0 (control 0 w) 0 0 (control 0 w)
+walk [] = λ w. counts (oneShot 0 w) 0 (interruptControl 0 w) 0 0 (interruptControl 0 w)
 walk (c ∷ cs) = λ w. added w c (step w c) (walk cs)
 
 walked : (cs : List Call) (w : World) → countsOf w cs ≡ walk cs w
-unfolding throughout observed after count interrupts walk added joined
+unfolding throughout observed after count interrupts walk added withCall
 walked [] w = refl
 walked (c ∷ cs) w =
-    ap (λ (n : ℕ). counts (throughout 0 w (c ∷ cs)) n (control 0 (after w (c ∷ cs))) (timesCleared 0 w (c ∷ cs)) (timesSet 0 w (c ∷ cs)) (control 0 w))
+    ap (λ (n : ℕ). counts (throughout 0 w (c ∷ cs)) n (interruptControl 0 (after w (c ∷ cs))) (timesCleared 0 w (c ∷ cs)) (timesSet 0 w (c ∷ cs)) (interruptControl 0 w))
     (observed-more 0 w c cs)
-    ∙ ap (λ (rest : Counts). joined w c (step w c) rest) (walked cs (step w c .world))
+    ∙ ap (λ (rest : Counts). withCall w c (step w c) rest) (walked cs (step w c .world))
 
 -- all walks of a list from one world, so that the calls before them are computed once too
 walks : World → List Case → List Counts
@@ -139,7 +139,7 @@ right w (c ∷ cs) e =
 
 -- all that the examples compute with
 computing-walks : Unit {0}
-unfolding computing after oneShot interrupts turnsRegister turnsAct turns walk added joined walks said
+unfolding computing after oneShot interrupts turnsRegister turnsAct turns walk added withCall walks said
 computing-walks = tt
 
 pub from-one : Right (from armed) fromOne
@@ -155,7 +155,7 @@ unfolding computing-walks withoutOneShot
 without-one-shot = right (from ready) withoutOneShot refl
 
 -- One-shot is needed: with it off, the two rings that gave one interrupt with it on exceed the bound.
-pub exceeded : OneShot 0 (from ready) twice → ⊥
+pub exceeded : Limited 0 (from ready) twice → ⊥
 unfolding withoutOneShot
 exceeded h =
     let e : countsOf (from ready) twice ≡ counts false 2 1 0 0 1 = without-one-shot .0 in

@@ -27,7 +27,7 @@ use Rattle.device.specs.Configuration.{withByte, writtenByte, configurat
 use Rattle.device.specs.Effect.{Operation, announces, registerStored, effect}
 use Rattle.device.specs.History.{Observation, deliveriesTo}
 use Rattle.device.specs.Msix.{inTable, msixWritten}
-use Rattle.device.specs.OneShot.{interrupts, turnsRegister, turnsAct, one}
+use Rattle.device.specs.OneShot.{interrupts, turnsRegister, turnsAct, one, NothingKept}
 use Rattle.device.specs.Registers.{Register, registerAt, memoryOn}
 use Rattle.device.specs.Ring.{Rung, rung, peerId, vector, gateOf, opens, target, deliveryOf, afterDelivery, ringAt, ring, withInterrupt}
 use Rattle.device.specs.Step.{Ran, ran, ranRings, run, runAll}
@@ -65,10 +65,9 @@ live-gate hub t v g e = go (every (ltb (t .0) (hub .settings .peers) ∷ eqb (sl
     go true k = cc
     go false k = let z : _≡_ {A = ℕ} 0 1 = cc in absurd (omega arith)
 
--- A ring at a peer whose Interrupt Control is 0 is lost: it delivers nothing and changes nothing.
-pub ring-lost : (hub : Hub) (t : PeerId) (v : Vector) → slotAt hub (t .0) .peer .interrupt ≡ 0 → ring hub t v ≡ rung hub []
+pub nothing-kept : NothingKept
 unfolding ring ringAt gateOf
-ring-lost hub t v off = go (target hub t v) refl
+nothing-kept hub t v off = go (target hub t v) refl
   where
     shut : (g : Gate) → gateAt hub t v ≡ g → opens g ≡ true → ⊥
     shut g e o =
@@ -126,8 +125,10 @@ module _ (b : ℕ) where
       slot : Slot
       slot = slotAt (w .hub) b
 
-      delivered : (g : Gate) → gateAt (w .hub) (peerId b) v ≡ g → opens g ≡ true
-          → Settled slot (sight b (ranRings (w .region) (rung (withSlot (w .hub) b (afterDelivery g slot)) (deliveryOf (peerId b) v (entryAt slot (v .0)) ∷ []))))
+      opened : Gate → Rung
+      opened g = rung (withSlot (w .hub) b (afterDelivery g slot)) (deliveryOf (peerId b) v (entryAt slot (v .0)) ∷ [])
+
+      delivered : (g : Gate) → gateAt (w .hub) (peerId b) v ≡ g → opens g ≡ true → Settled slot (sight b (ranRings (w .region) (opened g)))
       delivered g e o =
           let here : slotAt (withSlot (w .hub) b (afterDelivery g slot)) b ≡ afterDelivery g slot = getD-set-same (w .hub .slots) b (afterDelivery g slot) zeroSlot near in
           record {
@@ -139,7 +140,7 @@ module _ (b : ℕ) where
           }
 
       by : (t : Bool) (g : Gate) → gateAt (w .hub) (peerId b) v ≡ g → opens g ≡ t
-          → Settled slot (sight b (ranRings (w .region) (cond t (rung (withSlot (w .hub) b (afterDelivery g slot)) (deliveryOf (peerId b) v (entryAt slot (v .0)) ∷ [])) (rung (w .hub) []))))
+          → Settled slot (sight b (ranRings (w .region) (cond t (opened g) (rung (w .hub) []))))
       by true g e o = delivered g e o
       by false g e o = unrung w (w .region)
 

@@ -9,23 +9,26 @@ use lib.Dec.{eqb}
 use Rattle.common.specs.Bytes.{bit}
 use Rattle.common.specs.Tests.{every}
 use Rattle.device.specs.declared.Peer.{Peer}
+use Rattle.device.specs.declared.PeerId.{PeerId}
 use Rattle.device.specs.declared.Settings.{Settings}
+use Rattle.device.specs.declared.Vector.{Vector}
 use Rattle.device.specs.Call.{Act, Call}
 use Rattle.device.specs.Call.Act.{connect, disconnect, reset, configurationRead, configurationWrite, registerRead, registerWrite, msixRead, msixWrite, question, load, store}
 use Rattle.device.specs.History.{Observation, start, after, observed}
 use Rattle.device.specs.Refusal.{isConnected}
 use Rattle.device.specs.Registers.{Register, registerAt, memoryOn}
+use Rattle.device.specs.Ring.{rung, ring}
 use Rattle.device.specs.SetUp.{accepted}
 use Rattle.device.specs.Step.{step}
 use Rattle.device.specs.Window.{isAccepted}
-use Rattle.device.specs.World.{World, slotAt}
+use Rattle.device.specs.World.{Hub, World, slotAt}
 
 -- a peer's registers, and its Interrupt Control
 abbrev pub peerOf : ℕ → World → Peer
 peerOf b w = slotAt (w .hub) b .peer
 
-abbrev pub control : ℕ → World → ℕ
-control b w = peerOf b w .interrupt
+abbrev pub interruptControl : ℕ → World → ℕ
+interruptControl b w = peerOf b w .interrupt
 
 -- connected, with one-shot on (Privileged Control bit 0)
 unfoldable pub oneShot : ℕ → World → Bool
@@ -52,7 +55,7 @@ turnsRegister old new p Register.doorbell x = false
 turnsRegister old new p Register.state x = false
 turnsRegister old new p Register.none x = false
 
--- only a register write stores to it, and does nothing while Command bit 1 is off
+-- only a register write stores to it, and it does nothing while Command bit 1 is off
 unfoldable pub turnsAct : (old new : ℕ) → Peer → Act → Bool
 turnsAct old new p connect = false
 turnsAct old new p (disconnect n) = false
@@ -71,10 +74,11 @@ turnsAct old new p (store at bs) = false
 unfoldable pub turns : (old new : ℕ) → ℕ → World → Call → Bool
 turns old new b w c = every (eqb (c .who) b ∷ isAccepted w c ∷ turnsAct old new (peerOf b w) (c .act) ∷ [])
 
--- how many calls of a stretch pass a test, each in the world that it meets
+-- 1 for a test that holds, 0 for one that does not
 abbrev pub one : Bool → ℕ
 one t = cond t 1 0
 
+-- how many calls of a stretch pass a test, each in the world that it meets
 unfoldable pub count : (World → Call → Bool) → World → List Call → ℕ
 count t w [] = 0
 count t w (c ∷ cs) = one (t w c) + count t (step w c .world) cs
@@ -87,16 +91,21 @@ abbrev pub timesCleared : ℕ → World → List Call → ℕ
 timesCleared b w cs = count (turns 1 0 b) w cs
 
 -- What holds of a stretch that starts in a world.
-pub record OneShot (b : ℕ) (w : World) (cs : List Call) : Type 0 where
-  -- each interrupt, each clear of the peer's own and what is left at the end was set by the peer, or was there at the start
-  pub balance : interrupts (observed b w cs) + control b (after w cs) + timesCleared b w cs ≡ timesSet b w cs + control b w
+pub record Limited (b : ℕ) (w : World) (cs : List Call) : Type 0 where
+  -- interrupts, Interrupt Control at the end and own clears add up to own sets and Interrupt Control at the start
+  pub balance : interrupts (observed b w cs) + interruptControl b (after w cs) + timesCleared b w cs ≡ timesSet b w cs + interruptControl b w
   -- 'at most its own stores that turn Interrupt Control from 0 to 1, plus one if it was 1 at the start'
-  pub bound : interrupts (observed b w cs) ≤ timesSet b w cs + one (eqb (control b w) 1)
-  -- so between two of the peer's own stores to Interrupt Control at most one interrupt comes, whatever the others ring
+  pub bound : interrupts (observed b w cs) ≤ timesSet b w cs + one (eqb (interruptControl b w) 1)
+  -- so between one of the peer's own stores to Interrupt Control and the next at most one interrupt comes, whatever is rung
   pub single : timesSet b w cs ≡ 0 → interrupts (observed b w cs) ≤ 1
 
 -- 'Over any stretch of a history in which a peer stays connected with one-shot on throughout'
-abbrev pub OneShotHolds : Type 0
-OneShotHolds =
+abbrev pub OneShotLimits : Type 0
+OneShotLimits =
     (s : Settings) → accepted s ≡ true → (b : ℕ) (before stretch : List Call)
-    → throughout b (after (start s) before) stretch ≡ true → OneShot b (after (start s) before) stretch
+    → throughout b (after (start s) before) stretch ≡ true → Limited b (after (start s) before) stretch
+
+-- 'a ring not delivered is lost and changes nothing': one at Interrupt Control 0, by whatever call, delivers nothing and leaves the
+-- hub as it was, so that nothing can come of it later
+abbrev pub NothingKept : Type 0
+NothingKept = (hub : Hub) (t : PeerId) (v : Vector) → slotAt hub (t .0) .peer .interrupt ≡ 0 → ring hub t v ≡ rung hub []

@@ -63,6 +63,26 @@ impl Call {
         }
     }
 
+    /// The peer that the call is by or on.
+    #[must_use]
+    pub fn peer(&self) -> Option<u64> {
+        match *self {
+            Call::SetUp(_) => None,
+            Call::Connect { id }
+            | Call::Disconnect { id }
+            | Call::Reset { id }
+            | Call::ConfigurationRead { id, .. }
+            | Call::ConfigurationWrite { id, .. }
+            | Call::RegisterRead { id, .. }
+            | Call::RegisterWrite { id, .. }
+            | Call::MsixRead { id, .. }
+            | Call::MsixWrite { id, .. }
+            | Call::Section { id, .. }
+            | Call::Load { id, .. }
+            | Call::Store { id, .. } => Some(id),
+        }
+    }
+
     /// The length of the buffer that the call lends.
     #[must_use]
     pub fn buffer_length(&self) -> usize {

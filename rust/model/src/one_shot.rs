@@ -1,6 +1,9 @@
 //! One-shot mode over stretches of histories. While a connected peer has it on, the interrupts that the peer gets, its
 //! Interrupt Control as it stands and its own clears of it add up to its own sets and Interrupt Control at the start. The
 //! library is proved to keep this balance; here it is checked on the linked library, after every call.
+//!
+//! A device that kept a lost ring and delivered it at the next set would be in balance too: that nothing is kept is proved
+//! apart, and the comparison with the model finds it.
 
 use std::fmt;
 
@@ -13,7 +16,8 @@ use crate::layout::decode;
 use crate::subject::Subject;
 use crate::world::World;
 
-/// What a run has seen. A stretch is as long as a peer stays connected with one-shot on, or with it off.
+/// What a run has seen. A stretch is as long as a peer stays connected with one-shot on, or with it off. A reset turns it
+/// off, and does not end a stretch in which it is off.
 #[derive(Clone, Copy, Debug, Default)]
 pub struct Tally {
     /// All calls, refused ones and set-ups among them.
@@ -22,11 +26,15 @@ pub struct Tally {
     pub stretches: u64,
     /// Balances checked: a call, and a peer in such a stretch.
     pub checks: u64,
-    /// Interrupts in such stretches.
-    pub interrupts: u64,
-    /// The peers' own stores that turned Interrupt Control from 0 to 1, and from 1 to 0, in such stretches.
+    /// In such stretches, interrupts that a doorbell brought, and that a State store, reset or disconnect brought.
+    pub interrupts: [u64; 2],
+    /// Doorbells at the peer and one of its vectors that met Interrupt Control 0.
+    pub lost: u64,
+    /// The peer's own stores that turned Interrupt Control from 0 to 1, and from 1 to 0.
     pub sets: u64,
     pub clears: u64,
+    /// Calls by or on the peer that were refused.
+    pub refused: u64,
     /// Stretches with as many interrupts, at some time, as the bound allows, and one at least: from Interrupt Control 0 and 1.
     pub reached: [u64; 2],
     /// Stretches with one-shot off in which the bound was exceeded.
@@ -36,17 +44,14 @@ pub struct Tally {
 impl fmt::Display for Tally {
     fn fmt(&self, f: &mut fmt::Formatter<'_>) -> fmt::Result {
         writeln!(f, "one-shot: {} calls, {} stretches, {} balances checked", self.calls, self.stretches, self.checks)?;
-        writeln!(
-            f,
-            "in them {} interrupts; own stores from 0 to 1: {}, from 1 to 0: {}",
-            self.interrupts, self.sets, self.clears
-        )?;
-        writeln!(
-            f,
-            "bound reached from Interrupt Control 0 in {} stretches, from 1 in {}",
-            self.reached[0], self.reached[1]
-        )?;
-        write!(f, "bound exceeded with one-shot off in {} stretches", self.exceeded)
+        let [bells, others] = self.interrupts;
+        writeln!(f, "interrupts by doorbells: {bells}, by State stores, resets and disconnects: {others}")?;
+        writeln!(f, "doorbells lost at Interrupt Control 0: {}", self.lost)?;
+        writeln!(f, "own stores from 0 to 1: {}, from 1 to 0: {}", self.sets, self.clears)?;
+        writeln!(f, "refused calls by or on the peer: {}", self.refused)?;
+        let [zero, one] = self.reached;
+        writeln!(f, "stretches in which the bound was reached, from 0: {zero}, from 1: {one}")?;
+        write!(f, "stretches with one-shot off in which it was exceeded: {}", self.exceeded)
     }
 }
 
@@ -84,16 +89,6 @@ impl Stretch {
     }
 }
 
-/// The value that a peer's own accepted call stores to Interrupt Control, if it does.
-fn stored(call: &Call, id: usize, before: &Peer) -> Option<u32> {
-    match *call {
-        Call::RegisterWrite { id: by, offset: register::INTERRUPT_CONTROL, value, .. } if by == id as u64 => {
-            (before.command & 2 != 0).then_some(value & 1)
-        }
-        _ => None,
-    }
-}
-
 /// One call: what it met, what it was answered and what it left.
 struct Seen<'a> {
     call: &'a Call,
@@ -101,6 +96,56 @@ struct Seen<'a> {
     before: &'a Hub,
     after: &'a Hub,
     delivered: &'a [Delivery],
+}
+
+impl Seen<'_> {
+    /// An accepted store to a register that does something: by whom, where, and the value.
+    fn store(&self) -> Option<(u64, u64, u32)> {
+        match *self.call {
+            Call::RegisterWrite { id, offset, value, .. }
+                if self.accepted && self.before.peers[id as usize].command & 2 != 0 =>
+            {
+                Some((id, offset, value))
+            }
+            _ => None,
+        }
+    }
+
+    /// What the call means to one peer.
+    fn share(&self, id: usize) -> Share {
+        let before = &self.before.peers[id];
+        let control = match self.store() {
+            Some((by, register::INTERRUPT_CONTROL, value)) if by == id as u64 => Some(value & 1),
+            _ => None,
+        };
+        let bell = match self.store() {
+            Some((_, register::DOORBELL, value)) => {
+                value >> 16 == id as u32 && u64::from(value & 0xffff) < self.before.numbers.vectors
+            }
+            _ => false,
+        };
+        Share {
+            interrupts: self.delivered.iter().filter(|delivery| delivery.target.0 as usize == id).count() as u64,
+            set: before.interrupt == 0 && control == Some(1),
+            clear: before.interrupt == 1 && control == Some(0),
+            bell,
+            lost: bell && before.interrupt == 0,
+            refused: !self.accepted && self.call.peer() == Some(id as u64),
+        }
+    }
+}
+
+/// What one call means to one peer.
+struct Share {
+    interrupts: u64,
+    /// Its own store turned Interrupt Control from 0 to 1, or from 1 to 0.
+    set: bool,
+    clear: bool,
+    /// A doorbell was rung at the peer, and met Interrupt Control 0.
+    bell: bool,
+    lost: bool,
+    /// The call was by or on the peer and was refused.
+    refused: bool,
 }
 
 /// The stretches of a hub's peers.
@@ -121,32 +166,35 @@ impl Watch {
     }
 
     fn take_peer(&mut self, id: usize, seen: &Seen<'_>) -> Result<(), String> {
-        let (before, after) = (&seen.before.peers[id], &seen.after.peers[id]);
+        let after = &seen.after.peers[id];
         let now = Stretch::from(after);
         let Some(mut stretch) = self.peers[id].filter(|old| now.is_some_and(|new| new.one_shot == old.one_shot)) else {
             self.tally.stretches += u64::from(now.is_some_and(|new| new.one_shot));
             self.peers[id] = now;
             return Ok(());
         };
-        let interrupts = seen.delivered.iter().filter(|delivery| delivery.target.0 as usize == id).count() as u64;
-        let new = stored(seen.call, id, before).filter(|_| seen.accepted);
-        let set = u64::from(before.interrupt == 0 && new == Some(1));
-        let clear = u64::from(before.interrupt == 1 && new == Some(0));
-        stretch.interrupts += interrupts;
-        stretch.sets += set;
-        stretch.clears += clear;
+        let share = seen.share(id);
+        stretch.interrupts += share.interrupts;
+        stretch.sets += u64::from(share.set);
+        stretch.clears += u64::from(share.clear);
         if stretch.one_shot {
-            self.tally.checks += 1;
-            self.tally.interrupts += interrupts;
-            self.tally.sets += set;
-            self.tally.clears += clear;
-            if !stretch.balanced(after.interrupt) || stretch.interrupts > stretch.bound() {
+            self.count(&share);
+            if !stretch.balanced(after.interrupt) {
                 return Err(out_of_balance(id, &stretch, after.interrupt, seen.call));
             }
         }
         self.note(&mut stretch);
         self.peers[id] = Some(stretch);
         Ok(())
+    }
+
+    fn count(&mut self, share: &Share) {
+        self.tally.checks += 1;
+        self.tally.interrupts[usize::from(!share.bell)] += share.interrupts;
+        self.tally.lost += u64::from(share.lost);
+        self.tally.sets += u64::from(share.set);
+        self.tally.clears += u64::from(share.clear);
+        self.tally.refused += u64::from(share.refused);
     }
 
     /// Counts a stretch once, when it reaches the bound, or exceeds it with one-shot off.

@@ -1,5 +1,5 @@
-//! Wrong models, each with one slip that prototypes are known to make: the harness must find every one and cut the history
-//! short, and those of one-shot mode must be found out of balance.
+//! Wrong models, each with one slip, most of which prototypes are known to make: the harness must find every one and cut the
+//! history short, and those of one-shot mode must be found out of balance too.
 
 use std::collections::HashMap;
 
@@ -55,29 +55,27 @@ where
     assert!(compare::replay(subject(), &failure.events).is_some(), "{name}: the cut history fails by itself");
 }
 
-/// Runs until the balance of one-shot mode is found broken, and prints where.
-fn is_out_of_balance(name: &str, slip: fn(&mut Model, &Call, Lent<'_>) -> Answer) {
+/// A slip of one-shot mode: found by the comparison, and by the balance of interrupts and own stores.
+fn is_out_of_balance(name: &str, longest: usize, slip: fn(&mut Model, &Call, Lent<'_>) -> Answer) {
+    is_found(name, longest, || slip);
     let text = one_shot::run(|| Wrong { model: Model::default(), slip }, 3, 200_000).expect_err(name);
     println!("{name}: {text}\n");
 }
 
-fn clear_at_the_sender(model: &mut Model, call: &Call, lent: Lent<'_>) -> Answer {
-    right_then(model, call, lent, |hub, rings, _| {
-        let (Call::RegisterWrite { id, .. }, [Ring::Delivered(delivery, true)]) = (call, rings) else { return };
-        hub.peers[delivery.target.0 as usize].interrupt = 1;
-        hub.peers[*id as usize].interrupt = 0;
-    })
-}
-
 #[test]
 fn clears_the_senders_bit() {
-    is_found("one-shot clears the sender's bit", 10, || clear_at_the_sender);
-    is_out_of_balance("one-shot clears the sender's bit", clear_at_the_sender);
+    is_out_of_balance("one-shot clears the sender's bit", 10, |model, call, lent| {
+        right_then(model, call, lent, |hub, rings, _| {
+            let (Call::RegisterWrite { id, .. }, [Ring::Delivered(delivery, true)]) = (call, rings) else { return };
+            hub.peers[delivery.target.0 as usize].interrupt = 1;
+            hub.peers[*id as usize].interrupt = 0;
+        })
+    });
 }
 
 #[test]
 fn clears_nothing() {
-    is_out_of_balance("one-shot does not clear", |model, call, lent| {
+    is_out_of_balance("one-shot does not clear", 10, |model, call, lent| {
         right_then(model, call, lent, |hub, rings, _| {
             for ring in rings {
                 if let Ring::Delivered(delivery, true) = ring {
@@ -90,7 +88,7 @@ fn clears_nothing() {
 
 #[test]
 fn sets_the_targets_bit() {
-    is_out_of_balance("a lost ring sets Interrupt Control", |model, call, lent| {
+    is_out_of_balance("a lost ring sets Interrupt Control", 10, |model, call, lent| {
         right_then(model, call, lent, |hub, rings, _| {
             if let (Call::RegisterWrite { offset: 0x0c, value, .. }, [Ring::Lost(blocks)]) = (call, rings)
                 && *blocks == [Block::InterruptControlOff]
@@ -103,18 +101,14 @@ fn sets_the_targets_bit() {
 
 #[test]
 fn clears_one_shot_when_masked() {
-    is_found("a masked ring clears one-shot", 9, || {
-        |model: &mut Model, call: &Call, lent: Lent<'_>| {
-            right_then(model, call, lent, |hub, rings, _| {
-                let (Call::RegisterWrite { offset: 0x0c, value, .. }, [Ring::Lost(blocks)]) = (call, rings) else {
-                    return;
-                };
-                if *blocks == [Block::EntryMasked] {
-                    let target = &mut hub.peers[(value >> 16) as usize];
-                    target.interrupt &= !target.privileged;
-                }
-            })
-        }
+    is_out_of_balance("a masked ring clears one-shot", 9, |model, call, lent| {
+        right_then(model, call, lent, |hub, rings, _| {
+            let (Call::RegisterWrite { offset: 0x0c, value, .. }, [Ring::Lost(blocks)]) = (call, rings) else { return };
+            if *blocks == [Block::EntryMasked] {
+                let target = &mut hub.peers[(value >> 16) as usize];
+                target.interrupt &= !target.privileged;
+            }
+        })
     });
 }
 
