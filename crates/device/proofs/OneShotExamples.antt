@@ -31,6 +31,7 @@ set = call 0 (registerWrite 3 0x08 4 1)
 abbrev pub clear : Call
 clear = call 0 (registerWrite 3 0x08 4 0)
 
+-- two rings; and three rings, with a set before the first and before the last
 abbrev pub twice : List Call
 twice = bell ∷ bell ∷ []
 
@@ -105,7 +106,6 @@ withCall w c o rest =
     (one (turns 1 0 0 w c) + rest .cleared) (one (turns 0 1 0 w c) + rest .set) (interruptControl 0 w)
 
 added : World → Call → Outcome → (World → Counts) → Counts
-unfolding withCall
 added w c o later = withCall w c o (later (o .world))
 
 walk : List Call → World → Counts
