@@ -45,6 +45,7 @@ sound-control s i slot e = go (inUse s i (slot .peer)) (and-left (peerSound s i 
         omega (arith, and-le-r i 1)
     go false f = omega (arith, eqb-true (slot .peer .interrupt) 0 (every-true _ f 6))
 
+-- an id has a slot, or lies beyond the last
 by-slot : {P : Type 0} (w : World) (b : ℕ) → (b < length (w .hub .slots) → P) → (slotAt (w .hub) b ≡ zeroSlot → P) → P
 by-slot {P} w b has none = go (ltb b (length (w .hub .slots))) refl
   where
@@ -98,11 +99,11 @@ module _ (s : Settings) (w : World) (f : Fit s w) (b : ℕ) (before : oneShot b 
   -- whether the call turns Interrupt Control
   turns-refused : (old new : ℕ) (c : Call) → (refusal w c ≡ 0 → ⊥) → turns old new b w c ≡ false
   unfolding turns
-  turns-refused old new c n = every-false (eqb (c .who) b ∷ isAccepted w c ∷ turnsAct old new (peerOf b w) (c .act) ∷ []) 1 (ne-eqb (refusal w c) 0 n)
+  turns-refused old new c n = every-false _ 1 (ne-eqb (refusal w c) 0 n)
 
   turns-other : (old new : ℕ) (c : Call) → (c .who ≡ b → ⊥) → turns old new b w c ≡ false
   unfolding turns
-  turns-other old new c d = every-false (eqb (c .who) b ∷ isAccepted w c ∷ turnsAct old new (peerOf b w) (c .act) ∷ []) 0 (ne-eqb (c .who) b d)
+  turns-other old new c d = every-false _ 0 (ne-eqb (c .who) b d)
 
   turns-own : (old new : ℕ) (c : Call) → c .who ≡ b → refusal w c ≡ 0 → turns old new b w c ≡ turnsAct old new (peerOf b w) (c .act)
   unfolding turns every

@@ -1,5 +1,5 @@
 -- One-shot mode over a stretch of a history: while a connected peer has it on, it gets at most one interrupt for each time that it
--- sets Interrupt Control itself, and one more if Interrupt Control was set at the start.
+-- sets Interrupt Control itself, and one more if Interrupt Control was set at the start; and of a ring that is lost nothing is kept.
 use Prim.Native.Nat.{ℕ, suc, _+_, _≤_}
 use mathlib.Core.Bool.{Bool, true, false, cond, _&&_}
 use mathlib.Core.List.{List, [], _∷_}
