@@ -24,8 +24,8 @@ extern "C" {
 #endif
 
 /* The most peers and vectors that a hub can be set up with, and the words of a hub. */
-#define IVSHMEM_MAX_PEERS 8
-#define IVSHMEM_MAX_VECTORS 4
+#define IVSHMEM_MAX_PEERS 64
+#define IVSHMEM_MAX_VECTORS 16
 #define IVSHMEM_HUB_WORDS (10 + 8 * IVSHMEM_MAX_PEERS + 4 * IVSHMEM_MAX_PEERS * IVSHMEM_MAX_VECTORS)
 
 /* Bytes of a peer's three spaces. */
@@ -148,7 +148,7 @@ ivshmem_reply ivshmem_store(const uint32_t *hub, size_t hub_words, uint8_t *regi
 /* The layout that the library was built with. */
 #if defined(__STDC_VERSION__) && __STDC_VERSION__ >= 201112L
 _Static_assert(sizeof(size_t) == 8, "the library is built for 64-bit hosts");
-_Static_assert(IVSHMEM_HUB_WORDS == 202, "words of a hub");
+_Static_assert(IVSHMEM_HUB_WORDS == 4618, "words of a hub");
 _Static_assert(sizeof(ivshmem_reply) == 8, "ivshmem_reply");
 _Static_assert(offsetof(ivshmem_reply, value) == 4, "ivshmem_reply.value");
 _Static_assert(sizeof(ivshmem_delivery) == 24, "ivshmem_delivery");

@@ -86,8 +86,8 @@ static void shared_memory(void)
 
 int main(void)
 {
-    answered("set-up with 9 peers", ivshmem_set_up(hub, IVSHMEM_HUB_WORDS, region, TOTAL, 9, VECTORS, TABLE, COMMON, OUTPUT,
-                                                   0x100000000, 1, 0x110A, 0x4106));
+    answered("set-up with 65 peers", ivshmem_set_up(hub, IVSHMEM_HUB_WORDS, region, TOTAL, IVSHMEM_MAX_PEERS + 1, VECTORS, TABLE,
+                                                    COMMON, OUTPUT, 0x100000000, 1, 0x110A, 0x4106));
     answered("set-up with 4 peers", ivshmem_set_up(hub, IVSHMEM_HUB_WORDS, region, TOTAL, PEERS, VECTORS, TABLE, COMMON,
                                                    OUTPUT, 0x100000000, 1, 0x110A, 0x4106));
     for (uint64_t id = 0; id < PEERS; id++)

@@ -133,7 +133,7 @@ fn wrong(hub: &mut Hub, region: &mut Region) {
 // 10 before all others.
 fn unsound(hub: &mut Hub, region: &mut Region) {
     let mut short = [0xA5u8; 36863];
-    calls::made(hub, b"V", places::V, 5);
+    calls::made(hub, b"V", places::V, 17);
     configuration(hub, 0);
     msix(hub, 4);
     tabled(hub, region, 4, 0);

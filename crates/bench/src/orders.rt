@@ -9,7 +9,7 @@ use super::state::Region;
 // Peer 0 is connected, peer 1 is not, and there are two. The space ends at `end`.
 fn alone(hub: &Hub, space: Space, end: u64) {
     calls::read(hub, space, 2, 0, 4);
-    calls::read(hub, space, 7, 0, 4);
+    calls::read(hub, space, 63, 0, 4);
     calls::read(hub, space, 0x100000000, 0, 4);
     calls::read(hub, space, 0xFFFFFFFFFFFFFFFF, 0, 4);
     calls::read(hub, space, 1, 0, 4);
@@ -77,7 +77,7 @@ pub fn run(hub: &mut Hub, region: &mut Region) {
     together_by(hub, 0);
     together_by(hub, 1);
     together_by(hub, 2);
-    calls::made(hub, b"V", places::V, 5);
+    calls::made(hub, b"V", places::V, 17);
     together_by(hub, 0);
     together_by(hub, 1);
     together_by(hub, 2);

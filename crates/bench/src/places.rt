@@ -1,5 +1,5 @@
 // Where the hub's words stand, for the cases that put a word there by hand. Peer i has eight words from PEERS + 8i; its entry v
-// has one word in each of four columns, at 4i + v.
+// has one word in each of four columns, at ROW * i + v.
 pub const N: usize = 0;
 
 pub const V: usize = 1;
@@ -34,10 +34,12 @@ pub const INTERRUPT: usize = 6;
 
 pub const STATE: usize = 7;
 
-pub const LOW: usize = 74;
+pub const ROW: usize = device::MAX_VECTORS;
 
-pub const HIGH: usize = 106;
+pub const LOW: usize = PEERS + 8 * device::MAX_PEERS;
 
-pub const PAYLOAD: usize = 138;
+pub const HIGH: usize = LOW + words::ENTRIES;
 
-pub const CONTROL: usize = 170;
+pub const PAYLOAD: usize = HIGH + words::ENTRIES;
+
+pub const CONTROL: usize = PAYLOAD + words::ENTRIES;

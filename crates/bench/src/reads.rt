@@ -26,8 +26,8 @@ fn msix(hub: &Hub, id: u64, offset: u64) {
 
 fn connects(hub: &mut Hub) {
     calls::connect(hub, 2);
-    calls::connect(hub, 7);
-    calls::connect(hub, 8);
+    calls::connect(hub, 63);
+    calls::connect(hub, 64);
     calls::connect(hub, 0x100000000);
     calls::connect(hub, 0xFFFFFFFFFFFFFFFF);
     calls::connect(hub, 0);
@@ -162,17 +162,27 @@ fn entries(hub: &mut Hub) {
     calls::made(
         hub,
         b"address low of 1, vector 1",
-        places::LOW + 5,
+        places::LOW + places::ROW + 1,
         0xFEE0000C,
     );
     calls::made(
         hub,
         b"address high of 1, vector 1",
-        places::HIGH + 5,
+        places::HIGH + places::ROW + 1,
         0x00000001,
     );
-    calls::made(hub, b"data of 1, vector 1", places::PAYLOAD + 5, 0x00004043);
-    calls::made(hub, b"control of 1, vector 1", places::CONTROL + 5, 0);
+    calls::made(
+        hub,
+        b"data of 1, vector 1",
+        places::PAYLOAD + places::ROW + 1,
+        0x00004043,
+    );
+    calls::made(
+        hub,
+        b"control of 1, vector 1",
+        places::CONTROL + places::ROW + 1,
+        0,
+    );
     msix(hub, 0, 0x0C);
     msix(hub, 1, 0x00);
     msix(hub, 1, 0x0C);
@@ -182,7 +192,7 @@ fn entries(hub: &mut Hub) {
     msix(hub, 1, 0x1C);
     msix(hub, 1, 0x20);
     msix(hub, 1, 0x2C);
-    msix(hub, 1, 0x3C);
+    msix(hub, 1, 0xFC);
     msix(hub, 1, 0x800);
     msix(hub, 1, 0xFFC);
     calls::made(

@@ -4,9 +4,13 @@ use super::acts::configuration_write;
 use super::acts::msix_write;
 use super::calls;
 use super::calls::Space;
+use super::places;
 use super::print;
 use super::state::Hub;
 use super::state::Region;
+
+// Records enough for every hub.
+const RECORDS: u64 = device::MAX_PEERS as u64;
 
 pub fn set_up(hub: &mut Hub, region: &mut Region) {
     super::setups::set_up(hub, region, [4, 2, 4096, 16384, 4096, 0, 36864]);
@@ -40,7 +44,7 @@ pub fn all_on(hub: &mut Hub, region: &mut Region, id: u64, payload: u32) {
     hub::msix_write(hub, id, 0x00, 4, 0xFEE00000);
     hub::msix_write(hub, id, 0x08, 4, payload);
     hub::msix_write(hub, id, 0x0C, 4, 0);
-    hub::register_write(hub, region, 8, id, 0x08, 4, 1);
+    hub::register_write(hub, region, RECORDS, id, 0x08, 4, 1);
     print::text(b"all switches on at ");
     print::decimal(id);
     print::text(b", data ");
@@ -125,11 +129,11 @@ fn switches(hub: &mut Hub, region: &mut Region) {
 fn nobody(hub: &mut Hub, region: &mut Region) {
     register(hub, region, 1, 0x0C, 0x00020000);
     register(hub, region, 1, 0x0C, 0x00040000);
-    register(hub, region, 1, 0x0C, 0x00080000);
+    register(hub, region, 1, 0x0C, 0x00400000);
     register(hub, region, 1, 0x0C, 0x01030000);
     register(hub, region, 1, 0x0C, 0xFFFF0000);
     register(hub, region, 1, 0x0C, 0x00030002);
-    register(hub, region, 1, 0x0C, 0x00030004);
+    register(hub, region, 1, 0x0C, 0x00030010);
     register(hub, region, 1, 0x0C, 0x00030100);
     register(hub, region, 1, 0x0C, 0x0003FFFF);
     register(hub, region, 1, 0x0C, 0x00030001);
@@ -186,6 +190,55 @@ fn eight(hub: &mut Hub, region: &mut Region) {
     acts::load(hub, region, 0, 32, &mut buffer);
 }
 
+// Sixty-four peers, each with data 100h + its id.
+fn all_joined(hub: &mut Hub, region: &mut Region) {
+    let mut id = 0u32;
+    while id < 64 {
+        joined(hub, region, id as u64, 0x100 + id);
+        id += 1;
+    }
+}
+
+// Rings at the last peer and of its last vector, and at what is one beyond.
+fn last(hub: &mut Hub, region: &mut Region) {
+    msix_write(hub, 63, 0xF0, 4, 0xFEE0F000);
+    msix_write(hub, 63, 0xF8, 4, 0x0000013F);
+    acts::register_write(hub, region, 64, 0, 0x0C, 4, 0x003F000F);
+    msix_write(hub, 63, 0xFC, 4, 0);
+    acts::register_write(hub, region, 64, 0, 0x0C, 4, 0x003F000F);
+    acts::register_write(hub, region, 64, 0, 0x0C, 4, 0x003F0010);
+    acts::register_write(hub, region, 64, 0, 0x0C, 4, 0x0040000F);
+    acts::register_write(hub, region, 64, 63, 0x0C, 4, 0x003F000F);
+    msix_write(hub, 63, 0x108, 4, 1);
+    calls::read(hub, Space::Msix, 63, 0xF8, 4);
+    calls::read(hub, Space::Msix, 63, 0x108, 4);
+    calls::read(hub, Space::Configuration, 63, 0x60, 4);
+    calls::read(hub, Space::Registers, 63, 0x00, 4);
+    calls::read(hub, Space::Registers, 63, 0x04, 4);
+    calls::read(hub, Space::Registers, 64, 0x00, 4);
+    calls::connect(hub, 63);
+    calls::connect(hub, 64);
+}
+
+// The most peers with the most vectors: tables of 63 and of 64 records, all the others rung, and numbers that are one too large.
+fn sixty_four(hub: &mut Hub, region: &mut Region) {
+    super::setups::set_up(hub, region, [64, 16, 4096, 32768, 0, 0, 36864]);
+    all_joined(hub, region);
+    acts::register_write(hub, region, 63, 63, 0x10, 4, 0x01020304);
+    acts::register_write(hub, region, 64, 63, 0x10, 4, 0x01020304);
+    acts::register_write(hub, region, 64, 31, 0x10, 4, 0x05060708);
+    last(hub, region);
+    let mut buffer = [0u8; 8];
+    acts::load(hub, region, 0, 248, &mut buffer);
+    calls::changed(hub, b"N", places::N, 63);
+    calls::changed(hub, b"N", places::N, 65);
+    calls::changed(hub, b"V", places::V, 17);
+    acts::reset(hub, region, 63, 63);
+    acts::reset(hub, region, 64, 63);
+    acts::disconnect(hub, region, 64, 63);
+    acts::load(hub, region, 0, 248, &mut buffer);
+}
+
 pub fn run(hub: &mut Hub, region: &mut Region) {
     set_up(hub, region);
     whole_list(hub, region);
@@ -194,4 +247,5 @@ pub fn run(hub: &mut Hub, region: &mut Region) {
     nobody(hub, region);
     others(hub, region);
     eight(hub, region);
+    sixty_four(hub, region);
 }

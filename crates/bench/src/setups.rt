@@ -1,11 +1,13 @@
 // Set-up: each number at its bounds, what is lent at its lengths, and which refusal comes first. A State Table smaller than 4N
-// cannot be tried: the smallest that is a multiple of 4096 holds more than eight entries.
+// cannot be tried: the smallest that is a multiple of 4096 holds more entries than a hub has peers.
 use super::calls;
 use super::calls::Numbers;
 use super::calls::Space;
 use super::state::HUB_WORDS;
 use super::state::Hub;
+use super::state::LONG_WORDS;
 use super::state::Region;
+use super::state::SHORT_WORDS;
 
 pub fn set_up(hub: &mut Hub, region: &mut Region, n: Numbers) {
     calls::set_up(hub, region, n, [0, 0, 0], HUB_WORDS);
@@ -19,7 +21,7 @@ fn each(hub: &mut Hub, region: &mut Region, rows: &[Numbers]) {
     }
 }
 
-// Numbers that would be 2 or 1 in 32 bits, and an N of which 4N would be 0 in 64 bits, are no better than 9 and 5.
+// Numbers that would be 2 or 1 in 32 bits, and an N of which 4N would be 0 in 64 bits, are no better than 65 and 17.
 fn counts(hub: &mut Hub, region: &mut Region) {
     let rows = [
         [0, 1, 4096, 0, 0, 0, 4096],
@@ -27,6 +29,8 @@ fn counts(hub: &mut Hub, region: &mut Region) {
         [2, 1, 4096, 0, 0, 0, 4096],
         [8, 1, 4096, 0, 0, 0, 4096],
         [9, 1, 4096, 0, 0, 0, 4096],
+        [64, 1, 4096, 0, 0, 0, 4096],
+        [65, 1, 4096, 0, 0, 0, 4096],
         [0x100000002, 1, 4096, 0, 0, 0, 4096],
         [0x4000000000000000, 1, 4096, 0, 0, 0, 4096],
         [0xFFFFFFFFFFFFFFFF, 1, 4096, 0, 0, 0, 4096],
@@ -34,6 +38,9 @@ fn counts(hub: &mut Hub, region: &mut Region) {
         [2, 1, 4096, 0, 0, 0, 4096],
         [2, 4, 4096, 0, 0, 0, 4096],
         [2, 5, 4096, 0, 0, 0, 4096],
+        [2, 16, 4096, 0, 0, 0, 4096],
+        [2, 17, 4096, 0, 0, 0, 4096],
+        [64, 16, 4096, 0, 0, 0, 4096],
         [2, 0x100000001, 4096, 0, 0, 0, 4096],
         [2, 0xFFFFFFFFFFFFFFFF, 4096, 0, 0, 0, 4096],
     ];
@@ -75,17 +82,24 @@ fn totals(hub: &mut Hub, region: &mut Region) {
         [2, 1, 4096, 8192, 0x1FFFF000, 0, 4096],
         [8, 1, 4096, 28672, 0x7FFF000, 0, 4096],
         [8, 1, 4096, 32768, 0x7FFF000, 0, 4096],
+        [64, 1, 4096, 258048, 0xFFF000, 0, 4096],
+        [64, 1, 4096, 262144, 0xFFF000, 0, 4096],
         [2, 1, 4096, 0xFFFFFFFFFFFFF000, 0, 0, 0],
         [2, 1, 8192, 0xFFFFFFFFFFFFF000, 0, 0, 4096],
         [2, 1, 0xFFFFFFFFFFFFF000, 8192, 0, 0, 4096],
         [2, 1, 4096, 0, 0x8000000000000000, 0, 4096],
         [2, 1, 12288, 0, 0xFFFFFFFFFFFFF000, 0, 4096],
         [8, 1, 4096, 0, 0x2000000000000000, 0, 4096],
+        [64, 1, 4096, 0, 0x400000000000000, 0, 4096],
         [2, 1, 0x100001000, 0, 0, 0, 4096],
         [2, 1, 4096, 0x100000000, 0, 0, 4096],
         [2, 1, 4096, 0, 0x100000000, 0, 4096],
     ];
     each(hub, region, &rows);
+}
+
+fn short(hub: &mut Hub, region: &mut Region, n: Numbers) {
+    calls::set_up(hub, region, n, [0, 0, 0], SHORT_WORDS);
 }
 
 // The region's last byte at the last address, and one page further; then lengths of what is lent: 2, 1 before 2, 10 before both.
@@ -102,21 +116,21 @@ fn lengths(hub: &mut Hub, region: &mut Region) {
         [2, 1, 4096, 0, 0, 0, 4095],
         [2, 1, 4096, 0, 0, 0, 4097],
         [2, 1, 4096, 0, 0, 0, 0],
-        [9, 1, 4096, 0, 0, 0, 4095],
+        [65, 1, 4096, 0, 0, 0, 4095],
     ];
     each(hub, region, &rows);
     calls::set_up(hub, region, [2, 1, 4096, 0, 0, 0, 4096], [0, 0, 0], 0);
-    calls::set_up(hub, region, [2, 1, 4096, 0, 0, 0, 4096], [0, 0, 0], 201);
-    calls::set_up(hub, region, [9, 1, 4096, 0, 0, 0, 4096], [0, 0, 0], 201);
-    calls::set_up(hub, region, [2, 1, 4096, 0, 0, 0, 4095], [0, 0, 0], 201);
-    calls::set_up(hub, region, [9, 1, 4096, 0, 0, 0, 4095], [0, 0, 0], 201);
-    let mut longer = [0u32; 203];
+    short(hub, region, [2, 1, 4096, 0, 0, 0, 4096]);
+    short(hub, region, [65, 1, 4096, 0, 0, 0, 4096]);
+    short(hub, region, [2, 1, 4096, 0, 0, 0, 4095]);
+    short(hub, region, [65, 1, 4096, 0, 0, 0, 4095]);
+    let mut longer = [0u32; LONG_WORDS];
     calls::set_up(
         &mut longer,
         region,
         [2, 1, 4096, 0, 0, 0, 4096],
         [0, 0, 0],
-        203,
+        LONG_WORDS,
     );
 }
 
@@ -136,7 +150,7 @@ fn afterwards(hub: &mut Hub, region: &mut Region) {
     calls::connect(hub, 0);
     calls::read(hub, Space::Configuration, 0, 0x08, 4);
     calls::read(hub, Space::Configuration, 0, 0x2C, 4);
-    set_up(hub, region, [9, 1, 4096, 0, 0, 0, 4096]);
+    set_up(hub, region, [65, 1, 4096, 0, 0, 0, 4096]);
     calls::connect(hub, 0);
     reads_by(hub, 0);
     set_up(hub, region, [3, 1, 4096, 0, 0, 0, 4096]);

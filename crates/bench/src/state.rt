@@ -2,6 +2,11 @@
 
 pub const HUB_WORDS: usize = words::HUB_WORDS;
 
+// One word too few, and one too many.
+pub const SHORT_WORDS: usize = HUB_WORDS - 1;
+
+pub const LONG_WORDS: usize = HUB_WORDS + 1;
+
 pub const REGION_BYTES: usize = 36864;
 
 // Arrays, since their lengths need no proof when they are lent.

@@ -76,8 +76,8 @@ fn entries(hub: &mut Hub) {
     msix(hub, 0x1C, 0);
     msix(hub, 0x20, 0xFFFFFFFF);
     msix(hub, 0x2C, 0xFFFFFFFF);
-    msix(hub, 0x3C, 0xFFFFFFFF);
-    msix(hub, 0x40, 0xFFFFFFFF);
+    msix(hub, 0xFC, 0xFFFFFFFF);
+    msix(hub, 0x100, 0xFFFFFFFF);
     msix(hub, 0x7FC, 0xFFFFFFFF);
     msix(hub, 0x800, 0xFFFFFFFF);
     msix(hub, 0xFFC, 0xFFFFFFFF);

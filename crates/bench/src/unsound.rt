@@ -2,12 +2,16 @@
 use super::calls;
 use super::calls::changed;
 use super::places::*;
+use super::state::HUB_WORDS;
 use super::state::Hub;
+use super::state::LONG_WORDS;
 use super::state::Region;
+use super::state::SHORT_WORDS;
 
 // Bits that can be written, the free words of peer 0, and its and peer 1's being connected.
 fn sound(hub: &Hub) {
     changed(hub, b"V", V, 4);
+    changed(hub, b"V", V, 16);
     changed(hub, b"R", R, 0);
     changed(hub, b"connected of 0", PEERS, 0);
     changed(hub, b"connected of 1", PEERS + 8, 1);
@@ -29,9 +33,9 @@ fn numbers(hub: &Hub) {
     changed(hub, b"N", N, 0);
     changed(hub, b"N", N, 1);
     changed(hub, b"N", N, 3);
-    changed(hub, b"N", N, 9);
+    changed(hub, b"N", N, 65);
     changed(hub, b"V", V, 0);
-    changed(hub, b"V", V, 5);
+    changed(hub, b"V", V, 17);
     changed(hub, b"S", S, 0);
     changed(hub, b"S", S, 4100);
     changed(hub, b"S", S, 8192);
@@ -74,7 +78,7 @@ fn unused(hub: &Hub) {
     changed(hub, b"address high of 0, vector 1", HIGH + 1, 1);
     changed(hub, b"data of 0, vector 1", PAYLOAD + 1, 1);
     changed(hub, b"control of 0, vector 1", CONTROL + 1, 0);
-    changed(hub, b"control of 0, vector 3", CONTROL + 3, 0);
+    changed(hub, b"control of 0, vector 15", CONTROL + 15, 0);
     changed(hub, b"Command of 1", PEERS + 8 + COMMAND, 0x0002);
     changed(hub, b"BAR 0 of 1", PEERS + 8 + BAR_0, 0x1000);
     changed(hub, b"BAR 1 of 1", PEERS + 8 + BAR_1, 0x1000);
@@ -87,27 +91,27 @@ fn unused(hub: &Hub) {
     changed(hub, b"Message Control of 1", PEERS + 8 + MESSAGE, 0x80);
     changed(hub, b"Interrupt Control of 1", PEERS + 8 + INTERRUPT, 1);
     changed(hub, b"State of 1", PEERS + 8 + STATE, 1);
-    changed(hub, b"address low of 1, vector 0", LOW + 4, 4);
-    changed(hub, b"address high of 1, vector 0", HIGH + 4, 1);
-    changed(hub, b"data of 1, vector 0", PAYLOAD + 4, 1);
-    changed(hub, b"control of 1, vector 0", CONTROL + 4, 0);
+    changed(hub, b"address low of 1, vector 0", LOW + ROW, 4);
+    changed(hub, b"address high of 1, vector 0", HIGH + ROW, 1);
+    changed(hub, b"data of 1, vector 0", PAYLOAD + ROW, 1);
+    changed(hub, b"control of 1, vector 0", CONTROL + ROW, 0);
     changed(hub, b"connected of 2", PEERS + 16, 1);
     changed(hub, b"Command of 2", PEERS + 16 + COMMAND, 0x0002);
     changed(hub, b"State of 2", PEERS + 16 + STATE, 1);
-    changed(hub, b"control of 2, vector 0", CONTROL + 8, 0);
-    changed(hub, b"connected of 7", PEERS + 56, 1);
-    changed(hub, b"State of 7", PEERS + 56 + STATE, 1);
-    changed(hub, b"address low of 7, vector 3", LOW + 31, 4);
-    changed(hub, b"control of 7, vector 3", CONTROL + 31, 0);
+    changed(hub, b"control of 2, vector 0", CONTROL + 2 * ROW, 0);
+    changed(hub, b"connected of 63", PEERS + 8 * 63, 1);
+    changed(hub, b"State of 63", PEERS + 8 * 63 + STATE, 1);
+    changed(hub, b"address low of 63, vector 15", LOW + 63 * ROW + 15, 4);
+    changed(hub, b"control of 63, vector 15", CONTROL + 63 * ROW + 15, 0);
 }
 
 // Words of another number than a hub has.
 fn lengths(hub: &Hub) {
-    let mut shorter = [0u32; 201];
+    let mut shorter = [0u32; SHORT_WORDS];
     calls::cut(hub, &mut shorter);
-    let mut whole = [0u32; 202];
+    let mut whole = [0u32; HUB_WORDS];
     calls::cut(hub, &mut whole);
-    let mut longer = [0u32; 203];
+    let mut longer = [0u32; LONG_WORDS];
     calls::cut(hub, &mut longer);
     let mut one = [0u32; 1];
     calls::cut(hub, &mut one);

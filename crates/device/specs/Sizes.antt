@@ -1,9 +1,10 @@
--- The most peers and vectors of a hub ('Numbers accepted at set-up': N 2 to 8, V 1 to 4), the same numbers as the constants of src/.
+-- The most peers and vectors of a hub ('Numbers accepted at set-up', with the ranges of C-12: N 2 to 64, V 1 to 16), the same
+-- numbers as the constants of src/.
 -- Proofs use the laws of proofs/SizeLaws.antt and never these numbers themselves.
 use Prim.Native.Nat.{ℕ}
 
 unfoldable pub maxPeers : ℕ
-maxPeers = 8
+maxPeers = 64
 
 unfoldable pub maxVectors : ℕ
-maxVectors = 4
+maxVectors = 16

@@ -5,9 +5,9 @@ ghost use Rattle.device.specs.Sizes.{maxPeers, maxVectors};
 ghost use Rattle.device.specs.Reset.{resetPeer, resetEntry};
 
 // The most peers and vectors that a hub can be set up with. Proofs know these numbers only by name.
-pub const MAX_PEERS: usize = 8;
+pub const MAX_PEERS: usize = 64;
 
-pub const MAX_VECTORS: usize = 4;
+pub const MAX_VECTORS: usize = 16;
 
 pub fn max_peers() -> usize
     ensures { λ r. ⌜ r ≡ maxPeers ⌝ }

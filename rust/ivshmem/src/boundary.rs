@@ -57,7 +57,7 @@ pub struct SectionReply {
 }
 
 const _: () = {
-    assert!(HUB_WORDS == 10 + 8 * MAX_PEERS + 4 * MAX_PEERS * MAX_VECTORS && HUB_WORDS == 202);
+    assert!(HUB_WORDS == 10 + 8 * MAX_PEERS + 4 * MAX_PEERS * MAX_VECTORS && HUB_WORDS == 4618);
     assert!(size_of::<usize>() == 8, "the library is built for 64-bit machines");
     assert!(size_of::<PeerId>() == 4 && size_of::<Vector>() == 4);
 

@@ -5,7 +5,8 @@ use core::fmt;
 use crate::raw::{self, Counted, Delivery, Reply};
 use crate::{HUB_WORDS, PeerId, Placement, Refusal, Section, Settings};
 
-/// A hub: its words, and nothing else.
+/// A hub: its words, and nothing else. They are as many for every set-up, 18 KB: a host with a small stack keeps its hub in a
+/// box or a static.
 ///
 /// The region and the delivery table are lent to the calls that need them. A table with [`MAX_PEERS`](crate::MAX_PEERS)
 /// records is long enough for every hub; the calls answer the part of it that they filled, in ring order.
@@ -173,7 +174,7 @@ impl Hub {
     }
 }
 
-// 202 numbers tell a reader nothing.
+// Thousands of numbers tell a reader nothing.
 impl fmt::Debug for Hub {
     fn fmt(&self, f: &mut fmt::Formatter<'_>) -> fmt::Result {
         f.debug_struct("Hub").finish_non_exhaustive()

@@ -1,6 +1,6 @@
 //! A verified ivshmem v2 hub.
 //!
-//! The hub joins 2 to 8 guests, each through an ivshmem v2 PCI device: a shared region in sections, a doorbell, a state word
+//! The hub joins 2 to 64 guests, each through an ivshmem v2 PCI device: a shared region in sections, a doorbell, a state word
 //! for every peer, and MSI-X interrupts. The device model is proved and linked as a static library; this crate makes it safe
 //! to call. It keeps no state of its own, allocates nothing, and needs no standard library.
 //!
@@ -65,9 +65,9 @@ pub use refusal::Refusal;
 pub use types::{PeerId, Placement, Section, Settings, Vector};
 
 /// The most peers that a hub can be set up with.
-pub const MAX_PEERS: usize = 8;
+pub const MAX_PEERS: usize = 64;
 /// The most vectors that a peer can have.
-pub const MAX_VECTORS: usize = 4;
+pub const MAX_VECTORS: usize = 16;
 /// The words of a hub.
 pub const HUB_WORDS: usize = 10 + 8 * MAX_PEERS + 4 * MAX_PEERS * MAX_VECTORS;
 /// Bytes of a peer's configuration space.

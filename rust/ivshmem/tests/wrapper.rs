@@ -94,9 +94,21 @@ fn set_up_refused() {
     assert_eq!(Hub::set_up(&few, &mut region).unwrap_err(), Refusal::BadSetting);
     assert_eq!(Hub::set_up(&SETTINGS, &mut region[1..]).unwrap_err(), Refusal::BadRegion);
     assert!(region.iter().all(|&byte| byte == 0xee));
+}
 
+/// The crate's sizes are the library's: the most is taken, one more is not, and a hub has just so many words.
+#[test]
+fn sizes() {
     let most = Settings { peers: MAX_PEERS as u64, vectors: MAX_VECTORS as u64, ..SETTINGS };
-    assert!(Hub::set_up(&most, &mut vec![0; most.total().unwrap()]).is_ok());
+    let mut region = vec![0; most.total().unwrap()];
+    assert!(Hub::set_up(&most, &mut region).is_ok());
+    for more in [Settings { peers: most.peers + 1, ..most }, Settings { vectors: most.vectors + 1, ..most }] {
+        let mut region = vec![0; more.total().unwrap()];
+        assert_eq!(Hub::set_up(&more, &mut region).unwrap_err(), Refusal::BadSetting);
+    }
+    for (words, number) in [(HUB_WORDS - 1, 10), (HUB_WORDS, 0), (HUB_WORDS + 1, 10)] {
+        assert_eq!(raw::set_up(&mut vec![0; words], &mut region, &most).number, number);
+    }
 }
 
 #[test]

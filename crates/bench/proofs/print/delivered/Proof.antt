@@ -1,5 +1,5 @@
 -- `bench::print::delivered` is safe and ends.
-use Prim.Native.Nat.{_-_}
+use Prim.Native.Nat.{_-_, _^_}
 use borrow.Author.Needs.{needs}
 use Rattle.bench.proofs.print.delivered.Statement.{statement}
 use Rattle.bench.proofs.print.delivered.Tie as tie
@@ -7,8 +7,9 @@ use Rattle.bench.proofs.print.delivered.Tie as tie
 abbrev Inv-loop : tie.InvT-loop
 Inv-loop count records k₀ k = Unit
 
+-- any bound on the most peers serves
 abbrev μ-loop : tie.MeasureT-loop
-μ-loop count records k₀ k = 8 - k
+μ-loop count records k₀ k = 2 ^ 16 - k
 
 slice-aggregate-text : tie.Need-slice-aggregate-text Inv-loop μ-loop
 slice-aggregate-text c = search needs

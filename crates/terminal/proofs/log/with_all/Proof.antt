@@ -1,5 +1,5 @@
 -- `terminal::log::with_all` is safe and ends.
-use Prim.Native.Nat.{_-_}
+use Prim.Native.Nat.{_-_, _^_}
 use borrow.Author.Needs.{needs}
 use Rattle.terminal.proofs.log.with_all.Statement.{statement}
 use Rattle.terminal.proofs.log.with_all.Tie as tie
@@ -7,8 +7,9 @@ use Rattle.terminal.proofs.log.with_all.Tie as tie
 abbrev Inv-loop : tie.InvT-loop
 Inv-loop count records next₀ k₀ next k = Unit
 
+-- any bound on the most peers serves
 abbrev μ-loop : tie.MeasureT-loop
-μ-loop count records next₀ k₀ next k = 8 - k
+μ-loop count records next₀ k₀ next k = 2 ^ 16 - k
 
 loop-holds : tie.Need-loop-holds Inv-loop μ-loop
 loop-holds c = search needs
