@@ -2,10 +2,10 @@
 
 use std::fmt;
 
-use ivshmem::{HUB_WORDS, Settings};
+use ivshmem::{HUB_WORDS, MAX_PEERS, Settings};
 
 /// Records of the delivery table that a call is usually lent.
-pub const USUAL_RECORDS: usize = 8;
+pub const USUAL_RECORDS: usize = MAX_PEERS;
 
 /// One call. The bytes of a store are made from `fill`, so that a history stays small.
 #[derive(Clone, Debug, PartialEq, Eq)]
@@ -177,7 +177,7 @@ pub enum Event {
     Flip { word: usize, bits: u32 },
     /// The words become a fresh hub with these settings and with the peers of this mask connected; the region stays. So a
     /// hub with large sections needs no large region.
-    Plant(Settings, u8),
+    Plant(Settings, u64),
 }
 
 impl From<Call> for Event {
@@ -192,7 +192,7 @@ impl fmt::Display for Event {
             Event::Call(call, lengths) => write!(f, "{call}{lengths}"),
             Event::Flip { word, bits } => write!(f, "bits {bits:#x} of word {word} turn over"),
             Event::Plant(settings, mask) => {
-                write!(f, "the words become a hub with peers {mask:#010b} joined: {}", Call::SetUp(*settings))
+                write!(f, "the words become a hub with the peers of mask {mask:#x} joined: {}", Call::SetUp(*settings))
             }
         }
     }

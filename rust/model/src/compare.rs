@@ -58,6 +58,9 @@ impl<S: Subject> Pair<S> {
     }
 
     fn next_event(&self, generator: &mut Generator) -> Event {
+        if let Some(event) = generator.planned() {
+            return event;
+        }
         let hub = decode(self.models.hub_words()).expect("the host's words are as many as a hub has");
         generator.next(&hub, self.models.total())
     }

@@ -2,8 +2,11 @@
 
 use std::fmt;
 
+use ivshmem::{Settings, register};
+
 use crate::call::{Call, KINDS};
-use crate::hub::{Block, Ring};
+use crate::generate::{FEW_PEERS, FEW_VECTORS};
+use crate::hub::{Block, MAX_PEERS, MAX_VECTORS, Ring};
 use crate::subject::{Answer, Model};
 
 /// The numbers that each kind of call can answer, in the order of [`KINDS`].
@@ -47,7 +50,37 @@ pub const BLOCKS: [(Block, &str); 8] = [
     (Block::InterruptControlOff, "Interrupt Control 0"),
 ];
 
-/// Counts of calls by kind and number, and of rings by outcome.
+const PEERS: u64 = MAX_PEERS as u64;
+const LAST_PEER: u64 = PEERS - 1;
+const TOO_MANY_PEERS: u64 = PEERS + 1;
+const VECTORS: u64 = MAX_VECTORS as u64;
+const LAST_VECTOR: u64 = VECTORS - 1;
+const TOO_MANY_VECTORS: u64 = VECTORS + 1;
+// The names below have these numbers in them.
+const _: () = assert!(FEW_PEERS == 8 && PEERS == 64 && FEW_VECTORS == 4 && VECTORS == 16);
+
+/// What is counted of the sizes.
+pub const SIZES: [&str; 17] = [
+    "calls taken on hubs of more than 8 peers",
+    "calls taken on hubs of 64 peers",
+    "calls taken on hubs of more than 4 vectors",
+    "calls taken on hubs of 16 vectors",
+    "calls taken on hubs of 64 peers and 16 vectors",
+    "calls that delivered to 63 others",
+    "tables of N records taken, N above 8",
+    "tables of N - 1 records refused with 11, N above 8",
+    "calls by or on id 63 taken",
+    "calls by or on id 64 of 64 refused with 3",
+    "doorbells at id 63 delivered",
+    "doorbells at id 64 of 64 lost",
+    "doorbells of vector 15 delivered",
+    "doorbells of vector 16 of 16 lost",
+    "set-ups of 64 peers and of 16 vectors taken",
+    "set-ups of 65 peers refused with 1",
+    "set-ups of 17 vectors refused with 1",
+];
+
+/// Counts of calls by kind and number, of rings by outcome, and of what is at the edges of the sizes.
 #[derive(Clone, Debug, Default)]
 pub struct Counts {
     /// Calls of each kind, by the number answered.
@@ -64,6 +97,8 @@ pub struct Counts {
     pub lost_alone: [u64; 8],
     /// Rings lost for several reasons.
     pub lost_otherwise: u64,
+    /// In the order of [`SIZES`].
+    pub sizes: [u64; SIZES.len()],
 }
 
 impl Counts {
@@ -77,6 +112,9 @@ impl Counts {
     pub fn add(&mut self, call: &Call, answer: &Answer, model: &Model) {
         self.calls[call.kind()][answer.number as usize] += 1;
         self.several += u64::from(answer.count > 1);
+        for (count, holds) in self.sizes.iter_mut().zip(at_sizes(call, answer, model)) {
+            *count += u64::from(holds);
+        }
         for also in &model.also {
             self.beside[answer.number as usize][*also as usize] += 1;
         }
@@ -120,7 +158,47 @@ impl Counts {
         let others = [("delivered", self.delivered), ("one-shot", self.one_shot), ("several", self.several)];
         let few = rings.chain(others).filter(|&(_, count)| count < least);
         gaps.extend(few.map(|(name, count)| format!("rings, {name}: {count}")));
+        let few = SIZES.iter().zip(self.sizes).filter(|&(_, count)| count < least);
+        gaps.extend(few.map(|(name, count)| format!("{name}: {count}")));
         gaps
+    }
+}
+
+/// Which of [`SIZES`] a call is.
+fn at_sizes(call: &Call, answer: &Answer, model: &Model) -> [bool; SIZES.len()] {
+    let (peers, vectors, records) = (model.numbers.peers, model.numbers.vectors, model.records as u64);
+    let taken = answer.number == 0;
+    let tabled =
+        peers > FEW_PEERS && matches!(call, Call::RegisterWrite { .. } | Call::Reset { .. } | Call::Disconnect { .. });
+    let rung = doorbell(call, model);
+    [
+        taken && peers > FEW_PEERS,
+        taken && peers == PEERS,
+        taken && vectors > FEW_VECTORS,
+        taken && vectors == VECTORS,
+        taken && peers == PEERS && vectors == VECTORS,
+        answer.count as u64 == PEERS - 1,
+        tabled && taken && records == peers,
+        tabled && answer.number == 11 && records == peers - 1,
+        taken && call.peer() == Some(LAST_PEER),
+        answer.number == 3 && peers == PEERS && call.peer() == Some(PEERS),
+        matches!(rung, Some((LAST_PEER, _, true))),
+        matches!(rung, Some((PEERS, _, false))) && peers == PEERS,
+        matches!(rung, Some((_, LAST_VECTOR, true))),
+        matches!(rung, Some((_, VECTORS, false))) && vectors == VECTORS,
+        matches!(call, Call::SetUp(Settings { peers: PEERS, vectors: VECTORS, .. })) && taken,
+        matches!(call, Call::SetUp(Settings { peers: TOO_MANY_PEERS, .. })) && answer.number == 1,
+        matches!(call, Call::SetUp(Settings { vectors: TOO_MANY_VECTORS, .. })) && answer.number == 1,
+    ]
+}
+
+/// The target and the vector of a doorbell that rang, and whether it was delivered.
+fn doorbell(call: &Call, model: &Model) -> Option<(u64, u64, bool)> {
+    match (call, &model.rings[..]) {
+        (Call::RegisterWrite { offset: register::DOORBELL, value, .. }, [ring]) => {
+            Some(((value >> 16).into(), (value & 0xffff).into(), matches!(ring, Ring::Delivered(..))))
+        }
+        _ => None,
     }
 }
 
@@ -154,6 +232,11 @@ impl fmt::Display for Counts {
         for ((_, name), count) in BLOCKS.iter().zip(self.lost_alone) {
             writeln!(f, "rings lost only for {name:<20} {count:>8}")?;
         }
-        write!(f, "rings lost for several reasons: {}", self.lost_otherwise)
+        writeln!(f, "rings lost for several reasons: {}", self.lost_otherwise)?;
+        for (at, (name, count)) in SIZES.iter().zip(self.sizes).enumerate() {
+            let end = if at + 1 < SIZES.len() { "\n" } else { "" };
+            write!(f, "{name:<52} {count:>8}{end}")?;
+        }
+        Ok(())
     }
 }

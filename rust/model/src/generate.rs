@@ -5,12 +5,18 @@ use std::collections::VecDeque;
 use ivshmem::{HUB_WORDS, Settings};
 
 use crate::call::{Call, Event, KINDS, Lengths, USUAL_RECORDS};
-use crate::hub::{Hub, Numbers};
+use crate::hub::{Hub, MAX_PEERS, MAX_VECTORS, Numbers};
 use crate::random::Random;
 use crate::world::{LONGEST_REGION, MOST_RECORDS, MOST_WORDS};
 
 const PAGE: u64 = 4096;
 const TOP: u64 = u64::MAX;
+/// The most peers and vectors, as numbers of a call.
+const PEERS: u64 = MAX_PEERS as u64;
+const VECTORS: u64 = MAX_VECTORS as u64;
+/// As many as a terminal has: what most hubs that are made have at the most.
+pub const FEW_PEERS: u64 = 8;
+pub const FEW_VECTORS: u64 = 4;
 /// What a 32-bit computation would lose.
 const HIGH: u64 = 1 << 32;
 /// The registers, one offset behind them and one in the middle of nothing.
@@ -44,9 +50,14 @@ impl Generator {
         self.left == 0 && self.planned.is_empty()
     }
 
+    /// The next event of the history, where it has been planned already; what stands in the hub does not matter then.
+    pub fn planned(&mut self) -> Option<Event> {
+        self.planned.pop_front()
+    }
+
     /// The next event of the history.
     pub fn next(&mut self, hub: &Hub, total: usize) -> Event {
-        if let Some(event) = self.planned.pop_front() {
+        if let Some(event) = self.planned() {
             return event;
         }
         self.left -= 1;
@@ -60,7 +71,7 @@ impl Generator {
             7..8 => self.plan_set_up(),
             _ => {}
         }
-        if let Some(event) = self.planned.pop_front() {
+        if let Some(event) = self.planned() {
             return event;
         }
         let event = self.any_call(hub, total);
@@ -75,7 +86,7 @@ impl Generator {
 
     /// Mostly the right lengths; a table as short as allowed, longer or too short.
     fn lengths(&mut self, hub: &Hub, total: usize) -> Lengths {
-        let peers = hub.numbers.peers.clamp(1, 8);
+        let peers = peers_of(hub);
         let mut lengths = Lengths::USUAL;
         if self.random.chance(1, 40) {
             lengths.words = self.random.pick(&[0, 1, 10, HUB_WORDS - 1, HUB_WORDS + 1, MOST_WORDS]);
@@ -85,7 +96,8 @@ impl Generator {
         }
         let longer = USUAL_RECORDS as u64 + 1 + self.random.below((MOST_RECORDS - USUAL_RECORDS) as u64);
         if self.slips(40) {
-            lengths.records = self.random.below(peers) as usize;
+            let any = self.random.below(peers);
+            lengths.records = self.random.pick(&[any, peers - 1]) as usize;
         } else if self.random.chance(1, 6) {
             lengths.records = self.random.pick(&[peers, longer]) as usize;
         }
@@ -94,7 +106,7 @@ impl Generator {
 
     /// A call of a kind that is drawn by weight; set-ups are planned apart.
     fn any_call(&mut self, hub: &Hub, total: usize) -> Event {
-        const WEIGHTS: [u64; KINDS.len()] = [0, 2, 1, 1, 7, 10, 5, 60, 4, 10, 7, 6, 8];
+        const WEIGHTS: [u64; KINDS.len()] = [0, 3, 1, 1, 7, 10, 5, 60, 4, 10, 7, 6, 8];
         let mut draw = self.random.below(WEIGHTS.iter().sum());
         let kind = WEIGHTS.iter().position(|weight| match draw.checked_sub(*weight) {
             Some(rest) => {
@@ -133,10 +145,10 @@ impl Generator {
             }
             7 => self.register_write(hub, id),
             8 => {
-                let (offset, width) = self.msix_access();
+                let (offset, width) = self.msix_access(hub);
                 Call::MsixRead { id, offset, width }
             }
-            9 => self.msix_write(id),
+            9 => self.msix_write(hub, id),
             10 => {
                 let (offset, length) = self.range(hub, id);
                 Call::Section { id, offset, length }
@@ -169,9 +181,9 @@ impl Generator {
 
     /// Mostly a connected peer; sometimes any, sometimes none.
     fn id(&mut self, hub: &Hub) -> u64 {
-        let peers = hub.numbers.peers.clamp(1, 8);
+        let peers = peers_of(hub);
         if self.slips(40) {
-            return self.random.pick(&[peers, peers + 1, 7, 8, 9, 255, HIGH, HIGH + 1, TOP]);
+            return self.random.pick(&[peers, peers + 1, PEERS - 1, PEERS, PEERS + 1, 255, HIGH, HIGH + 1, TOP]);
         }
         let start = self.random.below(peers);
         let connected = |id: &u64| hub.peers[*id as usize].connected == 1;
@@ -187,14 +199,16 @@ impl Generator {
     fn doorbell(&mut self, hub: &Hub, id: u64) -> u32 {
         let (peers, vectors) = (hub.numbers.peers, hub.numbers.vectors);
         let target = match self.random.below(24) {
-            0 => self.random.pick(&[peers, peers + 1, 8, 9, 0x100, 0xffff]),
+            0 => self.random.pick(&[peers, peers + 1, PEERS - 1, PEERS, 0x100, 0xffff]),
             1 => id,
-            2..4 => self.random.below(8),
+            2..4 => self.random.below(peers_of(hub)),
             _ => self.id(hub),
         };
         let vector = match self.random.below(24) {
-            0 => self.random.pick(&[vectors, vectors + 1, 4, 5, 0x100, 0x8000, 0xffff]),
-            _ => self.random.below(vectors.clamp(1, 4)),
+            0..2 => self.random.pick(&[vectors, vectors + 1, VECTORS - 1, VECTORS, 0x100, 0x8000, 0xffff]),
+            // Every boot sets up the first and the last.
+            2..12 => self.random.pick(&[0, vectors_of(hub) - 1]),
+            _ => self.random.below(vectors_of(hub)),
         };
         (target as u32 & 0xffff) << 16 | vector as u32 & 0xffff
     }
@@ -261,15 +275,16 @@ impl Generator {
         (offset, width)
     }
 
-    fn msix_access(&mut self) -> (u64, u64) {
-        let entry = self.random.below(5) * 16;
+    /// An access to one of the entries, or to where one more would be.
+    fn msix_access(&mut self, hub: &Hub) -> (u64, u64) {
+        let entry = self.random.below(vectors_of(hub) + 1) * 16;
         self.bar_access(&[entry, entry + 4, entry + 8, entry + 12, 0x800])
     }
 
     /// Mostly a guest that takes a mask off.
-    fn msix_write(&mut self, id: u64) -> Call {
+    fn msix_write(&mut self, hub: &Hub, id: u64) -> Call {
         if !self.careless && self.random.chance(1, 2) {
-            let offset = 16 * self.random.below(4) + 12;
+            let offset = 16 * self.random.below(vectors_of(hub)) + 12;
             return Call::MsixWrite {
                 id,
                 offset,
@@ -277,7 +292,7 @@ impl Generator {
                 value: self.random.pick(&[0, 0, 0, 0, 0xffff_fffe, 1, u32::MAX]),
             };
         }
-        let (offset, width) = self.msix_access();
+        let (offset, width) = self.msix_access(hub);
         // An odd value would mask an entry too often here.
         let value = if offset % 16 == 12 { self.value() & !1 } else { self.value() };
         Call::MsixWrite { id, offset, width, value }
@@ -313,7 +328,7 @@ impl Generator {
     /// A section's start and size, mostly one that the peer may store to.
     fn section(&mut self, hub: &Hub, id: u64) -> (u64, u64) {
         let n = &hub.numbers;
-        let owner = if self.random.chance(1, 4) { self.random.below(8) } else { id.min(8) };
+        let owner = if self.random.chance(1, 4) { self.random.below(peers_of(hub) + 1) } else { id.min(PEERS) };
         let output = (n.state_table + n.read_write + owner * n.output, n.output);
         match self.random.below(8) {
             0 => (0, n.state_table),
@@ -333,7 +348,7 @@ impl Generator {
     /// Usually one that is away, so that it comes back.
     fn connect(&mut self, hub: &Hub, id: u64) -> Call {
         let away = |id: &u64| hub.peers[*id as usize].connected == 0;
-        let other = (0..hub.numbers.peers.min(8)).find(away).filter(|_| self.random.chance(3, 4));
+        let other = (0..hub.numbers.peers.min(PEERS)).find(away).filter(|_| self.random.chance(3, 4));
         Call::Connect { id: other.unwrap_or(id) }
     }
 
@@ -343,15 +358,24 @@ impl Generator {
             && id < hub.numbers.peers
             && self.random.chance(3, 4)
         {
-            self.plan_boot(id, hub.numbers.vectors.min(4));
+            self.plan_boot(id, vectors_of(hub), false);
         }
     }
 
-    /// What a driver does: every step is left out now and then, so that single switches stay off.
-    fn plan_boot(&mut self, id: u64, vectors: u64) {
+    /// The vectors that a driver sets up: all, or of many the first, the last and another.
+    fn booted(&mut self, vectors: u64) -> Vec<u64> {
+        let mut booted = vec![0, self.random.below(vectors), vectors - 1];
+        if vectors <= FEW_VECTORS {
+            booted = (0..vectors).collect();
+        }
+        booted
+    }
+
+    /// What a driver does. Where the boot is not whole every step is left out now and then, so that single switches stay off.
+    fn plan_boot(&mut self, id: u64, vectors: u64, whole: bool) {
         let command = self.random.pick(&[0x0006, 0x0006, 0x0406, 0xffff]);
         let mut calls = vec![Call::ConfigurationWrite { id, offset: 0x04, width: 2, value: command }];
-        for v in 0..vectors {
+        for v in self.booted(vectors) {
             let (low, high, data) = (self.value(), self.value(), self.value());
             for (offset, value) in [(0, low), (4, high), (8, data), (12, 0)] {
                 calls.push(Call::MsixWrite { id, offset: 16 * v + offset, width: 4, value });
@@ -363,7 +387,7 @@ impl Generator {
         calls.push(Call::ConfigurationWrite { id, offset: 0x62, width: 2, value: 0x8000 });
         calls.push(Call::RegisterWrite { id, offset: 0x08, width: 4, value: 1 });
         for call in calls {
-            if !self.random.chance(1, 24) {
+            if whole || !self.random.chance(1, 24) {
                 self.planned.push_back(call.into());
             }
         }
@@ -372,10 +396,32 @@ impl Generator {
     fn plan_set_up(&mut self) {
         let settings = good_settings(&mut self.random);
         self.planned.push_back(Call::SetUp(settings).into());
+        let whole = self.random.chance(1, 4);
         for id in 0..settings.peers {
-            if !self.random.chance(1, 10) {
-                self.planned.push_back(Call::Connect { id }.into());
-                self.plan_boot(id, settings.vectors);
+            if !whole && self.random.chance(1, 6) {
+                continue;
+            }
+            self.planned.push_back(Call::Connect { id }.into());
+            // Where there are many, half of them have no driver, so that boots are not most of a history.
+            if whole || settings.peers <= FEW_PEERS || self.random.chance(1, 2) {
+                self.plan_boot(id, settings.vectors, whole);
+            }
+        }
+        if whole {
+            self.plan_rings_at_all(settings.peers);
+        }
+    }
+
+    /// With everything on, a State store and a reset or disconnect ring all the others, each on a table that is one record too
+    /// short and on one that is just long enough.
+    fn plan_rings_at_all(&mut self, peers: u64) {
+        let id = self.random.below(peers);
+        let state_store = Call::RegisterWrite { id, offset: 0x10, width: 4, value: self.value() };
+        let leaving = if self.random.chance(1, 2) { Call::Reset { id } } else { Call::Disconnect { id } };
+        for call in [state_store, leaving] {
+            for records in [peers - 1, peers] {
+                let lengths = Lengths { records: records as usize, ..Lengths::USUAL };
+                self.planned.push_back(Event::Call(call.clone(), lengths));
             }
         }
     }
@@ -384,7 +430,7 @@ impl Generator {
     fn plan_refused_set_up(&mut self, hub: &Hub, total: usize) {
         let wrong_length = Lengths { region: self.random.pick(&[-1, 1, 64, -4096]), ..Lengths::USUAL };
         let wrong_words = Lengths { words: self.random.pick(&[0, HUB_WORDS - 1, HUB_WORDS + 1]), ..Lengths::USUAL };
-        for _ in 0..4 {
+        for _ in 0..8 {
             let settings = any_settings(&mut self.random);
             let lengths = self.random.pick(&[Lengths::USUAL, wrong_length, wrong_length, wrong_words]);
             self.planned.push_back(Event::Call(Call::SetUp(settings), lengths));
@@ -397,7 +443,7 @@ impl Generator {
     /// A hub with sections near the largest, on which everything works that needs no region.
     fn plan_large_hub(&mut self) {
         let settings = large_settings(&mut self.random);
-        let mask = (self.random.word() | self.random.word()) as u8 | 1;
+        let mask = self.random.long() | self.random.long() | 1;
         self.planned.push_back(Event::Plant(settings, mask));
         let hub = Hub::fresh((&settings).into());
         for _ in 0..24 {
@@ -438,18 +484,36 @@ impl Generator {
         for offset in (0..0x18).step_by(4) {
             self.planned.push_back(Call::RegisterRead { id, offset, width: 4 }.into());
         }
-        for offset in (0..0x44).step_by(4).chain([0x800]) {
+        for offset in (0..16 * VECTORS + 4).step_by(4).chain([0x800]) {
             self.planned.push_back(Call::MsixRead { id, offset, width: 4 }.into());
         }
     }
 }
 
+/// A hub's peers where they can be clamped to what a hub can have: its words may hold any number.
+fn peers_of(hub: &Hub) -> u64 {
+    hub.numbers.peers.clamp(1, PEERS)
+}
+
+fn vectors_of(hub: &Hub) -> u64 {
+    hub.numbers.vectors.clamp(1, VECTORS)
+}
+
+/// A number from `least` to `most`: mostly one of the few smallest, often above them, often the most.
+fn number(random: &mut Random, least: u64, few: u64, most: u64) -> u64 {
+    match random.below(8) {
+        0..4 => least + random.below(few + 1 - least),
+        4..6 => few + 1 + random.below(most - few),
+        _ => most,
+    }
+}
+
 /// Accepted settings with a small region.
 pub fn good_settings(random: &mut Random) -> Settings {
-    let peers = 2 + random.below(7);
+    let peers = number(random, 2, FEW_PEERS, PEERS);
     let mut settings = Settings {
         peers,
-        vectors: 1 + random.below(4),
+        vectors: number(random, 1, FEW_VECTORS, VECTORS),
         state_table: random.pick(&[PAGE, PAGE, 2 * PAGE]),
         read_write: random.pick(&[0, PAGE, PAGE, 2 * PAGE]),
         output: random.pick(&[0, PAGE, PAGE, 2 * PAGE]),
@@ -458,8 +522,12 @@ pub fn good_settings(random: &mut Random) -> Settings {
         subsystem_vendor: random.word() as u16,
         subsystem: random.word() as u16,
     };
-    if peers > 4 && settings.output > PAGE {
-        settings.output = PAGE;
+    if peers > 4 {
+        settings.output = settings.output.min(PAGE);
+    }
+    // Long regions take long to compare.
+    if peers > FEW_PEERS && random.chance(4, 5) {
+        settings.output = 0;
     }
     let total = Numbers::from(&settings).total();
     debug_assert!(total <= LONGEST_REGION);
@@ -479,18 +547,18 @@ pub fn bad_settings(random: &mut Random) -> Settings {
     let good = good_settings(random);
     let wrong_size =
         random.pick(&[1, 4095, 4097, 4100, 1 << 30, (1 << 30) + PAGE, HIGH, HIGH + PAGE, TOP, TOP - 4095, 1 << 63]);
-    match random.below(9) {
-        0 => Settings { peers: random.pick(&[0, 1, 2, 8, 9, 10, HIGH + 2, TOP]), ..good },
-        1 => Settings { vectors: random.pick(&[0, 1, 4, 5, 6, HIGH + 1, TOP]), ..good },
-        2 => Settings { state_table: random.pick(&[0, 0, wrong_size]), ..good },
-        3 => Settings { read_write: wrong_size, ..good },
-        4 => Settings { output: random.pick(&[wrong_size, 1 << 61, 1 << 62, 1 << 29, 1 << 27]), ..good },
-        5 => Settings { base: random.pick(&[1, 4095, TOP, TOP - 4095, good.base + 1]), ..good },
-        6 => {
+    match random.below(11) {
+        0..2 => Settings { peers: random.pick(&[0, 1, 2, PEERS, PEERS + 1, PEERS + 1, HIGH + 2, TOP]), ..good },
+        2..4 => Settings { vectors: random.pick(&[0, 1, VECTORS, VECTORS + 1, VECTORS + 1, HIGH + 1, TOP]), ..good },
+        4 => Settings { state_table: random.pick(&[0, 0, wrong_size]), ..good },
+        5 => Settings { read_write: wrong_size, ..good },
+        6 => Settings { output: random.pick(&[wrong_size, 1 << 58, 1 << 61, 1 << 62, 1 << 29, 1 << 27]), ..good },
+        7 => Settings { base: random.pick(&[1, 4095, TOP, TOP - 4095, good.base + 1]), ..good },
+        8 => {
             let total = Numbers::from(&good).total() as u64;
             Settings { base: (TOP - total + 1).wrapping_add(random.pick(&[PAGE, 0, 1, TOP - PAGE + 1])), ..good }
         }
-        7 => {
+        9 => {
             let mut large = large_settings(random);
             large.read_write += random.pick(&[PAGE, 0, 2 * PAGE]);
             large
@@ -503,7 +571,8 @@ pub fn bad_settings(random: &mut Random) -> Settings {
 pub fn large_settings(random: &mut Random) -> Settings {
     let mut settings = good_settings(random);
     settings.base = random.pick(&[0, HIGH, TOP - (1 << 30) + 1]);
-    settings.output = random.pick(&[0, PAGE, 1 << 20, 1 << 26]);
+    let half = (1 << 29) / settings.peers;
+    settings.output = random.pick(&[0, PAGE, 1 << 20, half - half % PAGE]);
     let rest = (1 << 30) - settings.peers * settings.output;
     match random.below(3) {
         0 => (settings.state_table, settings.read_write) = (rest, 0),

@@ -5,9 +5,9 @@ use std::ops::RangeInclusive;
 use ivshmem::{Delivery, PeerId, Section, Vector};
 
 /// The most peers, and the most vectors of a peer.
-pub const MAX_PEERS: usize = 8;
+pub const MAX_PEERS: usize = 64;
 /// See [`MAX_PEERS`].
-pub const MAX_VECTORS: usize = 4;
+pub const MAX_VECTORS: usize = 16;
 
 /// "Numbers accepted at set-up": all of them, wide enough for anything that memory can hold.
 #[derive(Clone, Copy, Debug, Default, PartialEq, Eq)]

@@ -10,8 +10,15 @@ use crate::hub::{Entry, Hub, MAX_PEERS, MAX_VECTORS, Numbers, Peer};
 
 const PEER_WORDS: usize = 8;
 const PEERS_AT: usize = 10;
-const ENTRIES_AT: usize = PEERS_AT + PEER_WORDS * MAX_PEERS;
+/// Where the entries begin, behind settings and registers.
+pub const ENTRIES_AT: usize = PEERS_AT + PEER_WORDS * MAX_PEERS;
 const COLUMN: usize = MAX_PEERS * MAX_VECTORS;
+
+// The model has its sizes from the rules, the wrapper from the library: they agree, and so do the words.
+const _: () = {
+    assert!(MAX_PEERS == ivshmem::MAX_PEERS && MAX_VECTORS == ivshmem::MAX_VECTORS);
+    assert!(ENTRIES_AT + 4 * COLUMN == HUB_WORDS);
+};
 
 /// The hub that the words are; nothing where their number is wrong.
 #[must_use]
@@ -34,12 +41,16 @@ pub fn decode(words: &[u32]) -> Option<Hub> {
     Some(Hub { numbers, peers: std::array::from_fn(|id| decode_peer(words, id)) })
 }
 
+/// Where the peer's part of each column begins; it has [`MAX_VECTORS`] words.
+fn columns(id: usize) -> [usize; 4] {
+    std::array::from_fn(|column| ENTRIES_AT + column * COLUMN + id * MAX_VECTORS)
+}
+
 fn decode_peer(words: &[u32], id: usize) -> Peer {
     let at = PEERS_AT + PEER_WORDS * id;
-    let entry = |v: usize| {
-        let word = |column: usize| words[ENTRIES_AT + column * COLUMN + id * MAX_VECTORS + v];
-        Entry { low: word(0), high: word(1), data: word(2), control: word(3) }
-    };
+    let part = |start: usize| words[start..].first_chunk::<MAX_VECTORS>().expect("a column goes on to its end");
+    let [low, high, data, control] = columns(id).map(part);
+    let entry = |v: usize| Entry { low: low[v], high: high[v], data: data[v], control: control[v] };
     Peer {
         connected: words[at],
         command: words[at + 1],
@@ -66,10 +77,9 @@ pub fn encode(hub: &Hub) -> [u32; HUB_WORDS] {
     for (id, p) in hub.peers.iter().enumerate() {
         let peer = [p.connected, p.command, p.bar0, p.bar1, p.privileged, p.message, p.interrupt, p.state];
         words[PEERS_AT + PEER_WORDS * id..][..PEER_WORDS].copy_from_slice(&peer);
-        for (v, entry) in p.entries.iter().enumerate() {
-            for (column, word) in [entry.low, entry.high, entry.data, entry.control].into_iter().enumerate() {
-                words[ENTRIES_AT + column * COLUMN + id * MAX_VECTORS + v] = word;
-            }
+        let column: [fn(&Entry) -> u32; 4] = [|e| e.low, |e| e.high, |e| e.data, |e| e.control];
+        for (start, word) in columns(id).into_iter().zip(column) {
+            words[start..][..MAX_VECTORS].copy_from_slice(&p.entries.each_ref().map(word));
         }
     }
     words

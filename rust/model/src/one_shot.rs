@@ -149,13 +149,16 @@ struct Share {
 }
 
 /// The stretches of a hub's peers.
-#[derive(Default)]
 struct Watch {
     peers: [Option<Stretch>; MAX_PEERS],
     tally: Tally,
 }
 
 impl Watch {
+    fn new() -> Watch {
+        Watch { peers: [None; MAX_PEERS], tally: Tally::default() }
+    }
+
     /// Takes in one call.
     fn take(&mut self, seen: &Seen<'_>) -> Result<(), String> {
         self.tally.calls += 1;
@@ -227,10 +230,10 @@ fn out_of_balance(id: usize, stretch: &Stretch, control: u32, call: &Call) -> St
 /// The first stretch that is out of balance, in words.
 pub fn run<S: Subject>(make: impl Fn() -> S, seed: u64, calls: u64) -> Result<Tally, String> {
     let mut generator = Generator::new(seed);
-    let mut watch = Watch::default();
+    let mut watch = Watch::new();
     while watch.tally.calls < calls {
         let (mut subject, mut world) = (make(), World::default());
-        watch.peers = Default::default();
+        watch.peers = [None; MAX_PEERS];
         generator.begin();
         while !generator.finished() {
             let before = decode(world.hub_words()).expect("the host's words are as many as a hub has");

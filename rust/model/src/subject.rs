@@ -91,6 +91,9 @@ pub struct Model {
     pub rings: Vec<Ring>,
     /// The refusals that applied beside the one given.
     pub also: Vec<u32>,
+    /// The set-up numbers of the hub afterwards, and the records that were lent.
+    pub numbers: Numbers,
+    pub records: usize,
 }
 
 impl Subject for Model {
@@ -103,7 +106,10 @@ impl Subject for Model {
             return self.refused(Refused(vec![10]));
         };
         let Lent { words, region, table, buffer } = lent;
-        match self.step(&mut hub, call, region, table.len(), buffer) {
+        self.records = table.len();
+        let outcome = self.step(&mut hub, call, region, table.len(), buffer);
+        self.numbers = hub.numbers;
+        match outcome {
             Err(refused) => {
                 if let Call::SetUp(_) = call {
                     // "A refused set-up returns an all-zero hub."

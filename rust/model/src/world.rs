@@ -1,6 +1,6 @@
 //! The host's memory, and the comparison of two of them after every event.
 
-use ivshmem::{Delivery, HUB_WORDS, PeerId, Settings, Vector};
+use ivshmem::{Delivery, HUB_WORDS, MAX_PEERS, PeerId, Settings, Vector};
 
 use crate::call::{Call, Event, Lengths};
 use crate::hub::{Hub, Numbers, Peer};
@@ -10,9 +10,9 @@ use crate::subject::{Answer, Lent, Subject};
 /// Elements that every lent slice has behind its end, to see stores that run past it.
 const SLACK: usize = 64;
 /// The longest region that the host makes.
-pub const LONGEST_REGION: u128 = 72 * 1024;
+pub const LONGEST_REGION: u128 = 272 * 1024;
 /// Records that the host has; it may lend fewer.
-pub const MOST_RECORDS: usize = 12;
+pub const MOST_RECORDS: usize = MAX_PEERS + 6;
 /// Words that the host has; it may lend fewer.
 pub const MOST_WORDS: usize = HUB_WORDS + 6;
 

@@ -1,6 +1,6 @@
 //! The cases of the rules' bench, on the model and the library at once.
 
-use ivshmem::{Delivery, PeerId, Settings, Vector};
+use ivshmem::{Delivery, HUB_WORDS, PeerId, Settings, Vector};
 use model::call::{Call, Event, Lengths};
 use model::compare::Pair;
 use model::count::Counts;
@@ -137,10 +137,10 @@ fn whole_list() {
 fn numbers_accepted_at_set_up() {
     let good = four_peers(4);
     let number = |settings: Settings| Bench(Pair::new(Library)).number(Call::SetUp(settings));
-    for (peers, expected) in [(1, 1), (2, 0), (8, 0), (9, 1)] {
+    for (peers, expected) in [(1, 1), (2, 0), (8, 0), (9, 0), (64, 0), (65, 1)] {
         assert_eq!(number(Settings { peers, ..good }), expected);
     }
-    for (vectors, expected) in [(0, 1), (1, 0), (4, 0), (5, 1)] {
+    for (vectors, expected) in [(0, 1), (1, 0), (4, 0), (5, 0), (16, 0), (17, 1)] {
         assert_eq!(number(Settings { vectors, ..good }), expected);
     }
     for (state_table, expected) in [(0, 1), (4096, 0), (4100, 1)] {
@@ -156,14 +156,70 @@ fn numbers_accepted_at_set_up() {
     }
 }
 
+/// Sixty-four peers with sixteen vectors, and everything on at vectors 0 and 15.
+fn largest() -> Bench {
+    let settings = Settings { peers: 64, vectors: 16, ..four_peers(16) };
+    let ids: Vec<u64> = (0..64).collect();
+    let mut bench = Bench::new(settings, &ids);
+    for id in ids {
+        bench.switch_on(id, 0x100 + id as u32);
+        for (offset, value) in [(0xf4, 1), (0xf8, 0x200 + id as u32), (0xfc, 0)] {
+            assert_eq!(bench.number(Call::MsixWrite { id, offset, width: 4, value }), 0);
+        }
+    }
+    bench
+}
+
+#[test]
+fn all_others_of_sixty_four() {
+    let mut bench = largest();
+    let to = |id: u32| Delivery { target: PeerId(id), vector: Vector(0), address: 0xfee0_0000, payload: 0x100 + id };
+    let others = |sender: u32| (0..64).filter(|&id| id != sender).map(to).collect::<Vec<_>>();
+    for id in [0, 31, 63] {
+        assert_eq!(bench.register(id, 0x10, 5), others(id as u32));
+        assert_eq!(bench.0.world().region()[4 * id as usize..][..4], [5, 0, 0, 0]);
+    }
+    for (call, sender) in [(Call::Reset { id: 63 }, 63), (Call::Disconnect { id: 63 }, 63)] {
+        for (records, number, delivered) in [(63, 11, vec![]), (64, 0, others(sender))] {
+            let answer = bench.answer(Event::Call(call.clone(), Lengths { records, ..Lengths::USUAL }));
+            assert_eq!(answer.number, number);
+            assert_eq!(bench.0.world().table()[..answer.count], delivered);
+        }
+    }
+}
+
+#[test]
+fn last_peer_and_last_vector() {
+    let mut bench = largest();
+    let last = Delivery { target: PeerId(63), vector: Vector(15), address: 1 << 32, payload: 0x23f };
+    assert_eq!(bench.register(0, 0x0c, 0x003f_000f), [last]);
+    assert_eq!(bench.register(0, 0x0c, 0x003f_0010), []);
+    assert_eq!(bench.register(0, 0x0c, 0x0040_000f), []);
+    assert_eq!(bench.register(0, 0x0c, 0x0040_0010), []);
+    assert_eq!(bench.read(0x60), 0x800f_0011);
+    for (id, offset, number, value) in [(63, 0x00, 0, 63), (63, 0x04, 0, 64), (64, 0x00, 3, 0)] {
+        let answer = bench.answer(Call::RegisterRead { id, offset, width: 4 });
+        assert_eq!((answer.number, answer.value), (number, value));
+    }
+    for (offset, value) in [(0xf8, 0x23f), (0xfc, 0), (0x100, 0), (0x108, 0), (0x10c, 0)] {
+        assert_eq!(bench.answer(Call::MsixRead { id: 63, offset, width: 4 }).value, value);
+    }
+    assert_eq!(bench.number(Call::MsixWrite { id: 63, offset: 0x10c, width: 4, value: 1 }), 0);
+    assert_eq!(bench.number(Call::Connect { id: 63 }), 5);
+    assert_eq!(bench.number(Call::Connect { id: 64 }), 3);
+}
+
 #[test]
 fn the_order_of_refusals() {
     let lengths = |words, region, records| Lengths { words, region, records };
     let bad_write = Call::RegisterWrite { id: 9, offset: 4097, width: 8, value: 0 };
     let mut bench = Bench::new(four_peers(4), &[0]);
-    for (wrong, number) in
-        [(lengths(201, -1, 3), 10), (lengths(202, -1, 3), 2), (lengths(202, 0, 3), 11), (lengths(202, 0, 4), 3)]
-    {
+    for (wrong, number) in [
+        (lengths(HUB_WORDS - 1, -1, 3), 10),
+        (lengths(HUB_WORDS, -1, 3), 2),
+        (lengths(HUB_WORDS, 0, 3), 11),
+        (lengths(HUB_WORDS, 0, 4), 3),
+    ] {
         assert_eq!(bench.answer(Event::Call(bad_write.clone(), wrong)).number, number);
     }
     for (id, offset, width, number) in

@@ -7,8 +7,8 @@ use model::call::{Call, Event, KINDS};
 use model::compare::{Pair, replay};
 use model::count::Counts;
 use model::generate::{Generator, good_settings, large_settings};
-use model::hub::{Entry, Hub, MAX_VECTORS, Numbers, Peer};
-use model::layout::{decode, encode};
+use model::hub::{Entry, Hub, MAX_PEERS, MAX_VECTORS, Numbers, Peer};
+use model::layout::{ENTRIES_AT, decode, encode};
 use model::random::Random;
 use model::subject::Library;
 
@@ -61,14 +61,19 @@ fn peer(random: &mut Random, vectors: u64, dirt: Dirt) -> Peer {
 fn plausible(random: &mut Random, dirt: Dirt) -> (Hub, Settings) {
     let large = random.chance(1, 16);
     let settings = if large { large_settings(random) } else { good_settings(random) };
-    let mut hub = Hub::fresh(Numbers::from(&settings));
+    (registered(random, &settings, dirt), settings)
+}
+
+/// A hub with these settings and random registers.
+fn registered(random: &mut Random, settings: &Settings, dirt: Dirt) -> Hub {
+    let mut hub = Hub::fresh(Numbers::from(settings));
     for (id, slot) in (0..).zip(&mut hub.peers) {
         let joined = id < settings.peers && !random.chance(1, 4);
         if joined || random.chance(dirt.part, dirt.whole) {
             *slot = peer(random, settings.vectors, dirt);
         }
     }
-    (hub, settings)
+    hub
 }
 
 /// A sound hub, with a few bits turned over.
@@ -78,7 +83,7 @@ fn damaged(random: &mut Random) -> ([u32; HUB_WORDS], Settings) {
     let mut words = encode(&hub);
     for _ in 0..random.pick(&[1, 1, 1, 2, 3]) {
         // Settings and switches are few beside addresses and data.
-        let place = random.pick(&[10, 74, HUB_WORDS as u64]);
+        let place = random.pick(&[10, ENTRIES_AT as u64, HUB_WORDS as u64]);
         words[random.below(place) as usize] ^= 1 << random.below(32);
     }
     (words, settings)
@@ -101,11 +106,24 @@ fn noise(random: &mut Random) -> ([u32; HUB_WORDS], Settings) {
     (words, settings)
 }
 
-/// How many hubs of a sort there were, and how many of them sound.
+/// How many hubs of a sort there were, and how many of them sound; the same for those of the most peers and vectors.
 #[derive(Default)]
 struct Seen {
     hubs: u64,
     sound: u64,
+    largest: u64,
+    largest_sound: u64,
+}
+
+impl Seen {
+    fn add(&mut self, hub: &Hub) {
+        let sound = hub.sound();
+        let largest = (hub.numbers.peers, hub.numbers.vectors) == (MAX_PEERS as u64, MAX_VECTORS as u64);
+        self.hubs += 1;
+        self.sound += u64::from(sound);
+        self.largest += u64::from(largest);
+        self.largest_sound += u64::from(largest && sound);
+    }
 }
 
 fn failed(before: &[u32], event: &Event, difference: &str) -> ! {
@@ -128,8 +146,7 @@ fn any_memory_as_hub() {
         let sort = (turn % SORTS.len() as u64) as usize;
         let (words, settings) = SORTS[sort].1(&mut random);
         let hub = decode(&words).expect("as many words as a hub has");
-        seen[sort].hubs += 1;
-        seen[sort].sound += u64::from(hub.sound());
+        seen[sort].add(&hub);
         for _ in 0..CALLS_ON_EACH {
             pair.put(&words, &settings);
             let kind = random.below(KINDS.len() as u64) as usize;
@@ -144,7 +161,9 @@ fn any_memory_as_hub() {
     assert!(counts.total() >= 1_000_000);
     for seen in &seen[..2] {
         assert!(seen.sound >= 10_000 && seen.hubs - seen.sound >= 10_000);
+        assert!(seen.largest_sound >= 1_000 && seen.largest - seen.largest_sound >= 1_000);
     }
+    assert!(counts.sizes[..5].iter().all(|&calls| calls >= 10_000));
     // Every kind of call was answered on hubs that are sound and refused on those that are not.
     assert!(counts.calls.iter().all(|kind| kind[0] >= 1_000 && kind[10] >= 1_000));
     assert!(counts.delivered >= 1_000);
@@ -153,8 +172,10 @@ fn any_memory_as_hub() {
 /// Printed past the test's capture, so that every run shows it.
 fn report(names: &[&str], seen: &[Seen], counts: &Counts) {
     let mut text = String::from("any memory as hub\n");
-    for (name, Seen { hubs, sound }) in names.iter().zip(seen) {
-        text += &format!("{name}: {hubs} hubs, {sound} sound, {} not\n", hubs - sound);
+    for (name, Seen { hubs, sound, largest, largest_sound }) in names.iter().zip(seen) {
+        let largest_unsound = largest - largest_sound;
+        text += &format!("{name}: {hubs} hubs, {sound} sound, {} not; ", hubs - sound);
+        text += &format!("of the most peers and vectors {largest_sound} sound, {largest_unsound} not\n");
     }
     let _ = writeln!(std::io::stdout().lock(), "{text}{counts}");
 }
@@ -163,8 +184,11 @@ fn report(names: &[&str], seen: &[Seen], counts: &Counts) {
 #[test]
 fn every_single_bit() {
     let mut random = Random::new(33);
-    for _ in 0..8 {
-        let (hub, settings) = plausible(&mut random, CLEAN);
+    let most =
+        Settings { peers: MAX_PEERS as u64, vectors: MAX_VECTORS as u64, state_table: 4096, ..Settings::default() };
+    let any = (0..3).map(|_| plausible(&mut random, CLEAN)).collect::<Vec<_>>();
+    for (hub, settings) in [(registered(&mut random, &most, CLEAN), most)].into_iter().chain(any) {
+        assert!(hub.sound());
         let mut pair = Pair::new(Library);
         for bit in 0..HUB_WORDS * 32 {
             let mut words = encode(&hub);
