@@ -6,7 +6,7 @@ use model::subject::Answer;
 
 use crate::device::{Lending, Library, perform};
 
-/// Calls of a round, each on a hub of its own. Few, so that all hubs stay in the nearest cache.
+/// Calls of a round, each on a hub of its own. Few, so that all hubs stay in a near cache, at 18 KB each.
 pub const ROUND: usize = 16;
 /// Bytes of a shared load or store.
 pub const SHARED_BYTES: usize = 64;
@@ -68,17 +68,39 @@ fn make(hub: &mut [u32; HUB_WORDS], region: &mut [u8], call: &Call) -> Answer {
     perform::<Library>(hub, call, Lending { region, table, buffer: &mut [] })
 }
 
-fn settings(peers: u64) -> Settings {
-    Settings {
-        peers,
-        vectors: MAX_VECTORS as u64,
-        state_table: PAGE,
-        read_write: PAGE,
-        output: PAGE,
-        base: 0x1_0000_0000,
-        protocol: 1,
-        subsystem_vendor: 0x110a,
-        subsystem: 0x4106,
+/// How many peers and vectors a hub is set up with.
+#[derive(Clone, Copy)]
+pub struct Size {
+    pub peers: u64,
+    pub vectors: u64,
+}
+
+/// The most that there can be, and what a terminal with four guests has.
+pub const SIZES: [Size; 2] =
+    [Size { peers: MAX_PEERS as u64, vectors: MAX_VECTORS as u64 }, Size { peers: 4, vectors: 4 }];
+
+impl Size {
+    fn settings(self) -> Settings {
+        Settings {
+            peers: self.peers,
+            vectors: self.vectors,
+            state_table: PAGE,
+            read_write: PAGE,
+            output: PAGE,
+            base: 0x1_0000_0000,
+            protocol: 1,
+            subsystem_vendor: 0x110a,
+            subsystem: 0x4106,
+        }
+    }
+
+    /// Ids in turn.
+    fn peer(self, k: u64) -> u64 {
+        k % self.peers
+    }
+
+    fn others(self) -> usize {
+        self.peers as usize - 1
     }
 }
 
@@ -94,7 +116,7 @@ fn booted(settings: &Settings, armed: impl Fn(u64) -> bool) -> [u32; HUB_WORDS] 
         for vector in 0..settings.vectors {
             let word = |at: u64, value: u32| Call::MsixWrite { id, offset: 16 * vector + at, width: 4, value };
             calls.push(word(msix::ADDRESS_LOW, 0xfee0_0000));
-            calls.push(word(msix::DATA, 0x40 + (4 * id + vector) as u32));
+            calls.push(word(msix::DATA, 0x40 + (settings.vectors * id + vector) as u32));
             calls.push(word(msix::CONTROL, 0));
         }
         let value = armed(id).into();
@@ -106,13 +128,6 @@ fn booted(settings: &Settings, armed: impl Fn(u64) -> bool) -> [u32; HUB_WORDS] 
     hub
 }
 
-const PEERS: u64 = MAX_PEERS as u64;
-
-/// Ids in turn.
-fn peer(k: u64) -> u64 {
-    k % PEERS
-}
-
 fn one_of(choices: &[u64], k: u64) -> u64 {
     choices[k as usize % choices.len()]
 }
@@ -121,9 +136,8 @@ fn register_write(id: u64, offset: u64, value: u32) -> Call {
     Call::RegisterWrite { id, offset, width: 4, value }
 }
 
-fn doorbell(k: u64) -> Call {
-    let target = register::doorbell(PeerId(peer(k + 1) as u32), Vector(k as u32 % MAX_VECTORS as u32));
-    register_write(peer(k), register::DOORBELL, target)
+fn state_store(id: u64, k: u64) -> Call {
+    register_write(id, register::STATE, k as u32 + 1)
 }
 
 fn load(id: u64, offset: u64) -> Call {
@@ -140,84 +154,112 @@ fn shared_offset(owner: u64, k: u64) -> u64 {
     start + 8 * k
 }
 
-fn configuration_write(k: u64) -> Call {
+fn configuration_write(id: u64, k: u64) -> Call {
     let (offset, width, value) = match k % 4 {
         0 => (0x04, 2, 0x0006),
         1 => (0x10, 4, 0xfebf_0000 + 0x1000 * k as u32),
         2 => (0x14, 4, 0xfebe_0000 + 0x1000 * k as u32),
         _ => (0x62, 2, 0x8000),
     };
-    Call::ConfigurationWrite { id: peer(k), offset, width, value }
+    Call::ConfigurationWrite { id, offset, width, value }
+}
+
+/// Every call on a hub of this size: accepted, ringing, and refused.
+#[must_use]
+pub fn all(size: Size) -> Vec<Case> {
+    [accepted(size), rings(size), refused(size)].into_iter().flatten().collect()
 }
 
 /// Every call, accepted.
-pub fn accepted() -> Vec<Case> {
-    let most = settings(PEERS);
-    let small = Settings { read_write: 0, output: 0, ..most };
-    let case = |name: &str, make: fn(u64) -> Call| Case::new(name, &most, make);
+fn accepted(size: Size) -> Vec<Case> {
+    let settings = size.settings();
+    let small = Settings { read_write: 0, output: 0, ..settings };
+    let case = |name: &str, make: &dyn Fn(u64, u64) -> Call| Case::new(name, &settings, |k| make(size.peer(k), k));
+    let next = |k| size.peer(k + 1);
     vec![
-        Case::new("set up, region of 4096 bytes", &small, |k| Call::SetUp(Settings { vectors: 1 + k % 4, ..small })),
-        case("connect", |k| Call::Connect { id: peer(k) }).after(|k| Call::Disconnect { id: peer(k) }).once(),
-        case("disconnect, 7 delivered", |k| Call::Disconnect { id: peer(k) }).delivering(7).once(),
-        case("reset, 7 delivered", |k| Call::Reset { id: peer(k) }).delivering(7),
-        case("configuration read, 4 bytes", |k| {
+        Case::new("set up, region of 4096 bytes", &small, |k| {
+            Call::SetUp(Settings { vectors: 1 + k % size.vectors, ..small })
+        }),
+        case("connect", &|id, _| Call::Connect { id }).after(|k| Call::Disconnect { id: size.peer(k) }).once(),
+        case("disconnect, all others delivered", &|id, _| Call::Disconnect { id }).delivering(size.others()).once(),
+        case("reset, all others delivered", &|id, _| Call::Reset { id }).delivering(size.others()),
+        case("configuration read, 4 bytes", &|id, k| {
             let offset = one_of(&[0x00, 0x04, 0x08, 0x10, 0x14, 0x2c, 0x40, 0x44, 0x50, 0x58, 0x60, 0x64], k);
-            Call::ConfigurationRead { id: peer(k), offset, width: 4 }
+            Call::ConfigurationRead { id, offset, width: 4 }
         }),
-        case("configuration write, 2 or 4 bytes", configuration_write),
-        case("register read", |k| {
+        case("configuration write, 2 or 4 bytes", &configuration_write),
+        case("register read", &|id, k| {
             let offset = one_of(&[register::ID, register::MAXIMUM_PEERS, register::STATE], k);
-            Call::RegisterRead { id: peer(k), offset, width: 4 }
+            Call::RegisterRead { id, offset, width: 4 }
         }),
-        case("register write, Interrupt Control", |k| register_write(peer(k), register::INTERRUPT_CONTROL, 1)),
-        case("MSI-X read", |k| Call::MsixRead { id: peer(k), offset: 4 * k, width: 4 }),
-        case("MSI-X write", |k| Call::MsixWrite { id: peer(k), offset: 4 * k, width: 4, value: 16 * k as u32 }),
-        case("section question", |k| Call::Section { id: peer(k), offset: shared_offset(peer(k + 1), k), length: 64 }),
-        case("load, 64 bytes", |k| load(peer(k), shared_offset(peer(k + 1), k))),
-        case("store, 64 bytes", |k| store(peer(k), shared_offset(peer(k), k))),
+        case("register write, Interrupt Control", &|id, _| register_write(id, register::INTERRUPT_CONTROL, 1)),
+        case("MSI-X read", &|id, k| Call::MsixRead { id, offset: 4 * k, width: 4 }),
+        case("MSI-X write", &|id, k| Call::MsixWrite { id, offset: 4 * k, width: 4, value: 16 * k as u32 }),
+        case("section question", &|id, k| Call::Section { id, offset: shared_offset(next(k), k), length: 64 }),
+        case("load, 64 bytes", &|id, k| load(id, shared_offset(next(k), k))),
+        case("store, 64 bytes", &|id, k| store(id, shared_offset(id, k))),
     ]
 }
 
-/// The calls that ring, and how a State store grows with the peers.
-pub fn rings() -> Vec<Case> {
-    const RECEIVER: u64 = PEERS - 1;
-    let most = settings(PEERS);
-    let state_store = |id, k| register_write(id, register::STATE, k as u32 + 1);
-    let few = Case {
-        hubs: vec![booted(&most, |id| id == RECEIVER); ROUND],
-        ..Case::new("State store at 8 peers, 1 of 7 delivered", &most, |k| state_store(k % RECEIVER, k))
+/// The calls that ring.
+fn rings(size: Size) -> Vec<Case> {
+    let settings = size.settings();
+    let receiver = size.peers - 1;
+    let doorbell = |k: u64| {
+        let target = PeerId(size.peer(k + 1) as u32);
+        register_write(size.peer(k), register::DOORBELL, register::doorbell(target, Vector((k % size.vectors) as u32)))
     };
-    let mut cases = vec![Case::new("doorbell, delivered", &most, doorbell).delivering(1), few.delivering(1)];
-    for peers in [2, 4, PEERS] {
-        let name = format!("State store at {peers} peers, all {} delivered", peers - 1);
-        let case = Case::new(&name, &settings(peers), |k| state_store(k % peers, k));
-        cases.push(case.delivering(peers as usize - 1));
-    }
-    cases
+    let one = Case {
+        hubs: vec![booted(&settings, |id| id == receiver); ROUND],
+        ..Case::new("State store, one other delivered", &settings, |k| state_store(k % receiver, k))
+    };
+    let all = Case::new("State store, all others delivered", &settings, |k| state_store(size.peer(k), k));
+    vec![
+        Case::new("doorbell, delivered", &settings, doorbell).delivering(1),
+        one.delivering(1),
+        all.delivering(size.others()),
+    ]
+}
+
+/// How a State store grows with the peers, at the most vectors.
+#[must_use]
+pub fn growth() -> Vec<Case> {
+    let sizes = [2, 4, 8, 16, 32, MAX_PEERS as u64].map(|peers| Size { peers, vectors: MAX_VECTORS as u64 });
+    let case = |size: Size| {
+        let name = format!("State store at {} peers, all {} delivered", size.peers, size.others());
+        Case::new(&name, &size.settings(), |k| state_store(size.peer(k), k)).delivering(size.others())
+    };
+    sizes.map(case).into()
 }
 
 /// Every call refused as late as it can be, and check 10 alone.
-pub fn refused() -> Vec<Case> {
-    let most = settings(PEERS);
-    let case = |name: &str, make: fn(u64) -> Call| Case::new(name, &most, make);
-    let gone = |name: &str, make: fn(u64) -> Call| case(name, make).after(|k| Call::Disconnect { id: peer(k) });
-    // The id test is the first behind check 10.
-    let check_10 = |k| Call::RegisterRead { id: PEERS + k, offset: register::ID, width: 4 };
-    let write = |k| Call::ConfigurationWrite { id: peer(k), offset: 256 + 4 * k, width: 4, value: 0 };
+fn refused(size: Size) -> Vec<Case> {
+    let settings = size.settings();
+    let case = |name: &str, make: &dyn Fn(u64, u64) -> Call| Case::new(name, &settings, |k| make(size.peer(k), k));
+    let gone =
+        |name: &str, make: &dyn Fn(u64, u64) -> Call| case(name, make).after(|k| Call::Disconnect { id: size.peer(k) });
+    let behind = |k: u64| PAGE + 4 * k;
+    let write = |id, k| Call::ConfigurationWrite { id, offset: 256 + 4 * k, width: 4, value: 0 };
     vec![
-        case("check 10 alone (register read with a wrong id)", check_10).refused(3),
-        case("set up", |k| Call::SetUp(Settings { base: 1 + k, ..settings(PEERS) })).refused(1),
-        case("connect", |k| Call::Connect { id: peer(k) }).refused(5),
-        gone("disconnect", |k| Call::Disconnect { id: peer(k) }).refused(4),
-        gone("reset", |k| Call::Reset { id: peer(k) }).refused(4),
-        case("configuration read", |k| Call::ConfigurationRead { id: peer(k), offset: 256 + k, width: 1 }).refused(8),
-        case("configuration write", write).refused(8),
-        case("register read", |k| Call::RegisterRead { id: peer(k), offset: PAGE + 4 * k, width: 4 }).refused(8),
-        case("register write", |k| register_write(peer(k), PAGE + 4 * k, 1)).refused(8),
-        case("MSI-X read", |k| Call::MsixRead { id: peer(k), offset: PAGE + 4 * k, width: 4 }).refused(8),
-        case("MSI-X write", |k| Call::MsixWrite { id: peer(k), offset: PAGE + 4 * k, width: 4, value: 0 }).refused(8),
-        case("section question", |k| Call::Section { id: peer(k), offset: 2 * PAGE - 8 - k, length: 64 }).refused(8),
-        case("load", |k| load(peer(k), 2 * PAGE - 8 - k)).refused(8),
-        case("store", |k| store(peer(k), 2 * PAGE + peer(k + 1) * PAGE)).refused(9),
+        // The id test is the first behind check 10.
+        case("check 10 alone (register read with a wrong id)", &|_, k| Call::RegisterRead {
+            id: size.peers + k,
+            offset: register::ID,
+            width: 4,
+        })
+        .refused(3),
+        case("set up", &|_, k| Call::SetUp(Settings { base: 1 + k, ..settings })).refused(1),
+        case("connect", &|id, _| Call::Connect { id }).refused(5),
+        gone("disconnect", &|id, _| Call::Disconnect { id }).refused(4),
+        gone("reset", &|id, _| Call::Reset { id }).refused(4),
+        case("configuration read", &|id, k| Call::ConfigurationRead { id, offset: 256 + k, width: 1 }).refused(8),
+        case("configuration write", &write).refused(8),
+        case("register read", &|id, k| Call::RegisterRead { id, offset: behind(k), width: 4 }).refused(8),
+        case("register write", &|id, k| register_write(id, behind(k), 1)).refused(8),
+        case("MSI-X read", &|id, k| Call::MsixRead { id, offset: behind(k), width: 4 }).refused(8),
+        case("MSI-X write", &|id, k| Call::MsixWrite { id, offset: behind(k), width: 4, value: 0 }).refused(8),
+        case("section question", &|id, k| Call::Section { id, offset: 2 * PAGE - 8 - k, length: 64 }).refused(8),
+        case("load", &|id, k| load(id, 2 * PAGE - 8 - k)).refused(8),
+        case("store", &|id, k| store(id, 2 * PAGE + size.peer(k + 1) * PAGE)).refused(9),
     ]
 }

@@ -3,11 +3,12 @@
 
 use std::process::ExitCode;
 
+use benchmark::cases::Case;
 use benchmark::measure::{PASSES, YARDSTICKS, measure_all};
 use benchmark::report::{Style, Table};
 use benchmark::state::Plain;
 use benchmark::{cases, stack};
-use ivshmem::HUB_WORDS;
+use ivshmem::{HUB_WORDS, MAX_VECTORS};
 
 fn main() -> ExitCode {
     let arguments: Vec<String> = std::env::args().skip(1).collect();
@@ -19,22 +20,30 @@ fn main() -> ExitCode {
             return ExitCode::FAILURE;
         }
     };
-    print_times(style);
+    print_all_times(style);
     print_memory(style);
     ExitCode::SUCCESS
 }
 
-fn print_times(style: Style) {
-    let cases: Vec<_> = [cases::accepted(), cases::rings(), cases::refused()].into_iter().flatten().collect();
+fn print_all_times(style: Style) {
+    println!("Library time / yardstick time; medians of {PASSES} passes. Check 10 is in every call but set up.\n");
+    for size in cases::SIZES {
+        println!("A hub of {} peers and {} vectors:\n", size.peers, size.vectors);
+        print_times(style, &cases::all(size));
+    }
+    println!("State stores as the peers grow, with {MAX_VECTORS} vectors each:\n");
+    print_times(style, &cases::growth());
+}
+
+fn print_times(style: Style, cases: &[Case]) {
     let mut table = Table::new(&[&["call", "calls per sample", "ns per call"], &YARDSTICKS[..]].concat());
     let mut spreads = Vec::new();
-    for row in measure_all(&cases) {
+    for row in measure_all(cases) {
         let mut cells = vec![row.name, row.calls.to_string(), format!("{:.0}", row.figures.nanoseconds)];
         cells.extend(row.figures.ratios.map(|ratio| format!("{ratio:.2}")));
         table.add(cells);
         spreads.push(100.0 * row.spread);
     }
-    println!("Library time / yardstick time; medians of {PASSES} passes. Check 10 is in every call but set up.\n");
     table.print(style);
     spreads.sort_by(f64::total_cmp);
     let (middle, most) = (spreads[spreads.len() / 2], spreads[spreads.len() - 1]);

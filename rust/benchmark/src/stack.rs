@@ -79,7 +79,7 @@ mod painted {
     #[must_use]
     pub fn depths() -> Vec<Depth> {
         let mut deepest = FUNCTIONS.map(|(name, _)| Depth { name, bytes: 0 });
-        for case in [cases::accepted(), cases::rings(), cases::refused()].iter().flatten() {
+        for case in cases::SIZES.map(cases::all).iter().flatten() {
             for (k, call) in case.calls.iter().enumerate() {
                 let bytes = case_depth(case, k);
                 let depth = &mut deepest[call.kind()];
