@@ -23,7 +23,7 @@
 extern "C" {
 #endif
 
-/* The most peers and vectors that a hub can be set up with, and the words of a hub. */
+/* The most peers and vectors that a hub can be set up with, and the words of a hub: 18 KB, for every set-up. */
 #define IVSHMEM_MAX_PEERS 64
 #define IVSHMEM_MAX_VECTORS 16
 #define IVSHMEM_HUB_WORDS (10 + 8 * IVSHMEM_MAX_PEERS + 4 * IVSHMEM_MAX_PEERS * IVSHMEM_MAX_VECTORS)

@@ -157,32 +157,34 @@ fn registers(hub: &mut Hub) {
     register(hub, 1, 0xFFC);
 }
 
-// The hub has vectors 0 to 2. Last, all of Command but bit 1.
-fn entries(hub: &mut Hub) {
+// Where vector 1 of peer 1 stands in each column.
+const ENTRY: usize = places::ROW + 1;
+
+fn entry_made(hub: &mut Hub) {
     calls::made(
         hub,
         b"address low of 1, vector 1",
-        places::LOW + places::ROW + 1,
+        places::LOW + ENTRY,
         0xFEE0000C,
     );
     calls::made(
         hub,
         b"address high of 1, vector 1",
-        places::HIGH + places::ROW + 1,
+        places::HIGH + ENTRY,
         0x00000001,
     );
     calls::made(
         hub,
         b"data of 1, vector 1",
-        places::PAYLOAD + places::ROW + 1,
+        places::PAYLOAD + ENTRY,
         0x00004043,
     );
-    calls::made(
-        hub,
-        b"control of 1, vector 1",
-        places::CONTROL + places::ROW + 1,
-        0,
-    );
+    calls::made(hub, b"control of 1, vector 1", places::CONTROL + ENTRY, 0);
+}
+
+// The hub has vectors 0 to 2. Last, all of Command but bit 1.
+fn entries(hub: &mut Hub) {
+    entry_made(hub);
     msix(hub, 0, 0x0C);
     msix(hub, 1, 0x00);
     msix(hub, 1, 0x0C);
