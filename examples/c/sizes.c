@@ -40,7 +40,7 @@ int main(void)
     faults += wrong("a word more", set_up(words + 1, peers, vectors), IVSHMEM_UNSOUND_HUB);
     faults += wrong("the most", set_up(words, peers, vectors), IVSHMEM_ACCEPTED);
     faults += wrong("the last peer", ivshmem_connect(hub, words, peers - 1).number, IVSHMEM_ACCEPTED);
-    faults += wrong("a peer behind it", ivshmem_connect(hub, words, peers).number, IVSHMEM_NO_SUCH_PEER);
+    faults += wrong("a peer beyond it", ivshmem_connect(hub, words, peers).number, IVSHMEM_NO_SUCH_PEER);
     faults += wrong("a record less", reset(peers - 1, peers - 1), IVSHMEM_SHORT_TABLE);
     faults += wrong("a record for each peer", reset(peers, peers - 1), IVSHMEM_ACCEPTED);
     return faults != 0;

@@ -194,7 +194,9 @@ fn entries(hub: &mut Hub) {
     msix(hub, 1, 0x1C);
     msix(hub, 1, 0x20);
     msix(hub, 1, 0x2C);
+    msix(hub, 1, 0x3C);
     msix(hub, 1, 0xFC);
+    msix(hub, 1, 0x100);
     msix(hub, 1, 0x800);
     msix(hub, 1, 0xFFC);
     calls::made(

@@ -202,7 +202,7 @@ fn all_joined(hub: &mut Hub, region: &mut Region) {
 // Rings at the last peer and of its last vector, and at what is one beyond.
 fn last(hub: &mut Hub, region: &mut Region) {
     msix_write(hub, 63, 0xF0, 4, 0xFEE0F000);
-    msix_write(hub, 63, 0xF8, 4, 0x0000013F);
+    msix_write(hub, 63, 0xF8, 4, 0x0000023F);
     acts::register_write(hub, region, 64, 0, 0x0C, 4, 0x003F000F);
     msix_write(hub, 63, 0xFC, 4, 0);
     acts::register_write(hub, region, 64, 0, 0x0C, 4, 0x003F000F);
@@ -220,7 +220,7 @@ fn last(hub: &mut Hub, region: &mut Region) {
     calls::connect(hub, 64);
 }
 
-// The most peers with the most vectors: tables of 63 and of 64 records, all the others rung, and numbers that are one too large.
+// The most peers with the most vectors: tables of 63 and of 64 records, all the others rung, and words that are one off.
 fn sixty_four(hub: &mut Hub, region: &mut Region) {
     super::setups::set_up(hub, region, [64, 16, 4096, 32768, 0, 0, 36864]);
     all_joined(hub, region);

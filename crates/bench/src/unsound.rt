@@ -28,7 +28,8 @@ fn sound(hub: &Hub) {
     changed(hub, b"control of 0, vector 0", CONTROL, 0);
 }
 
-// Numbers that a set-up would refuse. The region ends at the last address, so that no size can grow.
+// Numbers that a set-up would refuse. The region ends at the last address, so that no size can grow, nor N where O is not 0; the
+// most peers alone are tried with the rings.
 fn numbers(hub: &Hub) {
     changed(hub, b"N", N, 0);
     changed(hub, b"N", N, 1);

@@ -6,7 +6,8 @@ use model::subject::Answer;
 
 use crate::device::{Lending, Library, perform};
 
-/// Calls of a round, each on a hub of its own. Few, so that all hubs stay in a near cache, at 18 KB each.
+/// Calls of a round, each on a hub of its own. Few, so that all hubs stay in a near cache; on one hub alone, in the nearest, a
+/// call of the library took as long.
 pub const ROUND: usize = 16;
 /// Bytes of a shared load or store.
 pub const SHARED_BYTES: usize = 64;
@@ -75,7 +76,7 @@ pub struct Size {
     pub vectors: u64,
 }
 
-/// The most that there can be, and what a terminal with four guests has.
+/// The most that there can be, and a small hub.
 pub const SIZES: [Size; 2] =
     [Size { peers: MAX_PEERS as u64, vectors: MAX_VECTORS as u64 }, Size { peers: 4, vectors: 4 }];
 
@@ -94,9 +95,14 @@ impl Size {
         }
     }
 
-    /// Ids in turn.
+    /// Ids in turn, spread over all of them.
     fn peer(self, k: u64) -> u64 {
-        k % self.peers
+        5 * k % self.peers
+    }
+
+    /// Entries in turn, and of each another word.
+    fn entry_word(self, k: u64) -> u64 {
+        16 * (k % self.vectors) + 4 * (k / 4 % 4)
     }
 
     fn others(self) -> usize {
@@ -193,8 +199,11 @@ fn accepted(size: Size) -> Vec<Case> {
             Call::RegisterRead { id, offset, width: 4 }
         }),
         case("register write, Interrupt Control", &|id, _| register_write(id, register::INTERRUPT_CONTROL, 1)),
-        case("MSI-X read", &|id, k| Call::MsixRead { id, offset: 4 * k, width: 4 }),
-        case("MSI-X write", &|id, k| Call::MsixWrite { id, offset: 4 * k, width: 4, value: 16 * k as u32 }),
+        case("MSI-X read", &|id, k| Call::MsixRead { id, offset: size.entry_word(k), width: 4 }),
+        case("MSI-X write", &|id, k| {
+            let offset = size.entry_word(k);
+            Call::MsixWrite { id, offset, width: 4, value: 16 * k as u32 }
+        }),
         case("section question", &|id, k| Call::Section { id, offset: shared_offset(next(k), k), length: 64 }),
         case("load, 64 bytes", &|id, k| load(id, shared_offset(next(k), k))),
         case("store, 64 bytes", &|id, k| store(id, shared_offset(id, k))),

@@ -5,8 +5,8 @@ use core::fmt;
 use crate::raw::{self, Counted, Delivery, Reply};
 use crate::{HUB_WORDS, PeerId, Placement, Refusal, Section, Settings};
 
-/// A hub: its words, and nothing else. They are as many for every set-up, 18 KB: a host with a small stack keeps its hub in a
-/// box or a static.
+/// A hub: its words, and nothing else. They are as many for every set-up, and take 18 KB. [`set_up`](Hub::set_up) makes them on
+/// the stack; a host without that room lends words of its own to [`raw::set_up`](crate::raw::set_up) and the calls beside it.
 ///
 /// The region and the delivery table are lent to the calls that need them. A table with [`MAX_PEERS`](crate::MAX_PEERS)
 /// records is long enough for every hub; the calls answer the part of it that they filled, in ring order.

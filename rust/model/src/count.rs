@@ -6,7 +6,7 @@ use ivshmem::{Settings, register};
 
 use crate::call::{Call, KINDS};
 use crate::generate::{FEW_PEERS, FEW_VECTORS};
-use crate::hub::{Block, MAX_PEERS, MAX_VECTORS, Ring};
+use crate::hub::{Block, MAX_PEERS, MAX_VECTORS, Numbers, Ring};
 use crate::subject::{Answer, Model};
 
 /// The numbers that each kind of call can answer, in the order of [`KINDS`].
@@ -59,26 +59,31 @@ const TOO_MANY_VECTORS: u64 = VECTORS + 1;
 // The names below have these numbers in them.
 const _: () = assert!(FEW_PEERS == 8 && PEERS == 64 && FEW_VECTORS == 4 && VECTORS == 16);
 
-/// What is counted of the sizes.
-pub const SIZES: [&str; 17] = [
-    "calls taken on hubs of more than 8 peers",
-    "calls taken on hubs of 64 peers",
-    "calls taken on hubs of more than 4 vectors",
-    "calls taken on hubs of 16 vectors",
-    "calls taken on hubs of 64 peers and 16 vectors",
-    "calls that delivered to 63 others",
-    "tables of N records taken, N above 8",
-    "tables of N - 1 records refused with 11, N above 8",
-    "calls by or on id 63 taken",
-    "calls by or on id 64 of 64 refused with 3",
-    "doorbells at id 63 delivered",
-    "doorbells at id 64 of 64 lost",
-    "doorbells of vector 15 delivered",
-    "doorbells of vector 16 of 16 lost",
-    "set-ups of 64 peers and of 16 vectors taken",
-    "set-ups of 65 peers refused with 1",
-    "set-ups of 17 vectors refused with 1",
+/// What is counted of the sizes, and how often it must be seen in a million calls of random histories.
+pub const SIZES: [(&str, u64); 20] = [
+    ("calls taken on hubs of more than 8 peers", 300_000),
+    ("calls taken on hubs of 64 peers", 150_000),
+    ("calls taken on hubs of more than 4 vectors", 200_000),
+    ("calls taken on hubs of 16 vectors", 100_000),
+    ("calls taken on hubs of 64 peers and 16 vectors", 30_000),
+    ("State stores delivered to 63 others", 25),
+    ("resets delivered to 63 others", 25),
+    ("disconnects delivered to 63 others", 25),
+    ("all others delivered on a table of N records, N above 8", 100),
+    ("tables of N - 1 records refused with 11, N above 8", 1_000),
+    ("calls by or on id 63 taken", 3_000),
+    ("calls by or on id 64 of 64 refused with 3", 300),
+    ("doorbells at id 63 delivered", 50),
+    ("doorbells lost because id 64 is beyond the last of 64", 100),
+    ("doorbells of vector 15 delivered", 500),
+    ("doorbells lost because vector 16 is beyond the last of 16", 100),
+    ("stores to the output section of peer 63 taken", 15),
+    ("set-ups of 64 peers with 16 vectors taken", 50),
+    ("set-ups of 65 peers refused with 1", 50),
+    ("set-ups of 17 vectors refused with 1", 50),
 ];
+/// How many of [`SIZES`], from the first on, are calls on large hubs.
+pub const ON_LARGE_HUBS: usize = 5;
 
 /// Counts of calls by kind and number, of rings by outcome, and of what is at the edges of the sizes.
 #[derive(Clone, Debug, Default)]
@@ -136,7 +141,8 @@ impl Counts {
         }
     }
 
-    /// What is not covered `least` times, or should never have been answered, in words; empty is good.
+    /// What is not covered `least` times, or of [`SIZES`] as often as they ask, or should never have been answered, in words;
+    /// empty is good.
     #[must_use]
     pub fn gaps(&self, least: u64) -> Vec<String> {
         let mut gaps = Vec::new();
@@ -158,8 +164,8 @@ impl Counts {
         let others = [("delivered", self.delivered), ("one-shot", self.one_shot), ("several", self.several)];
         let few = rings.chain(others).filter(|&(_, count)| count < least);
         gaps.extend(few.map(|(name, count)| format!("rings, {name}: {count}")));
-        let few = SIZES.iter().zip(self.sizes).filter(|&(_, count)| count < least);
-        gaps.extend(few.map(|(name, count)| format!("{name}: {count}")));
+        let few = SIZES.iter().zip(self.sizes).filter(|((_, least), count)| count * 1_000_000 < least * self.total());
+        gaps.extend(few.map(|((name, _), count)| format!("{name}: {count}")));
         gaps
     }
 }
@@ -168,38 +174,48 @@ impl Counts {
 fn at_sizes(call: &Call, answer: &Answer, model: &Model) -> [bool; SIZES.len()] {
     let (peers, vectors, records) = (model.numbers.peers, model.numbers.vectors, model.records as u64);
     let taken = answer.number == 0;
+    let on = taken && call.peer().is_some();
+    let all = |call: bool| call && answer.count as u64 == LAST_PEER;
     let tabled =
         peers > FEW_PEERS && matches!(call, Call::RegisterWrite { .. } | Call::Reset { .. } | Call::Disconnect { .. });
     let rung = doorbell(call, model);
     [
-        taken && peers > FEW_PEERS,
-        taken && peers == PEERS,
-        taken && vectors > FEW_VECTORS,
-        taken && vectors == VECTORS,
-        taken && peers == PEERS && vectors == VECTORS,
-        answer.count as u64 == PEERS - 1,
-        tabled && taken && records == peers,
+        on && peers > FEW_PEERS,
+        on && peers == PEERS,
+        on && vectors > FEW_VECTORS,
+        on && vectors == VECTORS,
+        on && peers == PEERS && vectors == VECTORS,
+        all(matches!(call, Call::RegisterWrite { .. })),
+        all(matches!(call, Call::Reset { .. })),
+        all(matches!(call, Call::Disconnect { .. })),
+        tabled && answer.count as u64 == peers - 1 && records == peers,
         tabled && answer.number == 11 && records == peers - 1,
-        taken && call.peer() == Some(LAST_PEER),
+        on && call.peer() == Some(LAST_PEER),
         answer.number == 3 && peers == PEERS && call.peer() == Some(PEERS),
-        matches!(rung, Some((LAST_PEER, _, true))),
-        matches!(rung, Some((PEERS, _, false))) && peers == PEERS,
-        matches!(rung, Some((_, LAST_VECTOR, true))),
-        matches!(rung, Some((_, VECTORS, false))) && vectors == VECTORS,
+        matches!(rung, Some((LAST_PEER, _, Ring::Delivered(..)))),
+        matches!(rung, Some((PEERS, _, Ring::Lost(why))) if *why == [Block::NoSuchId]) && peers == PEERS,
+        matches!(rung, Some((_, LAST_VECTOR, Ring::Delivered(..)))),
+        matches!(rung, Some((_, VECTORS, Ring::Lost(why))) if *why == [Block::NoSuchVector]) && vectors == VECTORS,
+        matches!(call, Call::Store { id: LAST_PEER, offset, .. } if *offset >= last_output(&model.numbers)) && taken,
         matches!(call, Call::SetUp(Settings { peers: PEERS, vectors: VECTORS, .. })) && taken,
         matches!(call, Call::SetUp(Settings { peers: TOO_MANY_PEERS, .. })) && answer.number == 1,
         matches!(call, Call::SetUp(Settings { vectors: TOO_MANY_VECTORS, .. })) && answer.number == 1,
     ]
 }
 
-/// The target and the vector of a doorbell that rang, and whether it was delivered.
-fn doorbell(call: &Call, model: &Model) -> Option<(u64, u64, bool)> {
+/// The target and the vector of a doorbell that rang, and what became of it.
+fn doorbell<'a>(call: &Call, model: &'a Model) -> Option<(u64, u64, &'a Ring)> {
     match (call, &model.rings[..]) {
         (Call::RegisterWrite { offset: register::DOORBELL, value, .. }, [ring]) => {
-            Some(((value >> 16).into(), (value & 0xffff).into(), matches!(ring, Ring::Delivered(..))))
+            Some(((value >> 16).into(), (value & 0xffff).into(), ring))
         }
         _ => None,
     }
+}
+
+/// Where the output section of the last peer begins.
+fn last_output(n: &Numbers) -> u64 {
+    n.state_table + n.read_write + LAST_PEER * n.output
 }
 
 impl fmt::Display for Counts {
@@ -233,10 +249,7 @@ impl fmt::Display for Counts {
             writeln!(f, "rings lost only for {name:<20} {count:>8}")?;
         }
         writeln!(f, "rings lost for several reasons: {}", self.lost_otherwise)?;
-        for (at, (name, count)) in SIZES.iter().zip(self.sizes).enumerate() {
-            let end = if at + 1 < SIZES.len() { "\n" } else { "" };
-            write!(f, "{name:<52} {count:>8}{end}")?;
-        }
-        Ok(())
+        let sizes = SIZES.iter().zip(self.sizes).map(|((name, _), count)| format!("{name:<58} {count:>8}"));
+        f.write_str(&sizes.collect::<Vec<_>>().join("\n"))
     }
 }

@@ -14,7 +14,7 @@ const TOP: u64 = u64::MAX;
 /// The most peers and vectors, as numbers of a call.
 const PEERS: u64 = MAX_PEERS as u64;
 const VECTORS: u64 = MAX_VECTORS as u64;
-/// As many as a terminal has: what most hubs that are made have at the most.
+/// Half of the hubs that are made have so many at the most.
 pub const FEW_PEERS: u64 = 8;
 pub const FEW_VECTORS: u64 = 4;
 /// What a 32-bit computation would lose.
@@ -185,7 +185,8 @@ impl Generator {
         if self.slips(40) {
             return self.random.pick(&[peers, peers + 1, PEERS - 1, PEERS, PEERS + 1, 255, HIGH, HIGH + 1, TOP]);
         }
-        let start = self.random.below(peers);
+        // The last one is one of many, but what is at an edge should not be rare.
+        let start = if self.random.chance(1, 16) { peers - 1 } else { self.random.below(peers) };
         let connected = |id: &u64| hub.peers[*id as usize].connected == 1;
         let found = (0..peers).map(|step| (start + step) % peers).find(connected);
         found.filter(|_| !self.slips(12)).unwrap_or(start)
@@ -402,7 +403,7 @@ impl Generator {
                 continue;
             }
             self.planned.push_back(Call::Connect { id }.into());
-            // Where there are many, half of them have no driver, so that boots are not most of a history.
+            // Where there are many, half of them have no driver: boots are long, and a history should have other calls too.
             if whole || settings.peers <= FEW_PEERS || self.random.chance(1, 2) {
                 self.plan_boot(id, settings.vectors, whole);
             }
@@ -412,17 +413,18 @@ impl Generator {
         }
     }
 
-    /// With everything on, a State store and a reset or disconnect ring all the others, each on a table that is one record too
-    /// short and on one that is just long enough.
+    /// With everything on, all the others are rung, which disarms those that are one-shot: on a table that is one record too
+    /// short, then on one that is just long enough.
     fn plan_rings_at_all(&mut self, peers: u64) {
         let id = self.random.below(peers);
-        let state_store = Call::RegisterWrite { id, offset: 0x10, width: 4, value: self.value() };
-        let leaving = if self.random.chance(1, 2) { Call::Reset { id } } else { Call::Disconnect { id } };
-        for call in [state_store, leaving] {
-            for records in [peers - 1, peers] {
-                let lengths = Lengths { records: records as usize, ..Lengths::USUAL };
-                self.planned.push_back(Event::Call(call.clone(), lengths));
-            }
+        let call = match self.random.below(3) {
+            0 => Call::RegisterWrite { id, offset: 0x10, width: 4, value: self.value() },
+            1 => Call::Reset { id },
+            _ => Call::Disconnect { id },
+        };
+        for records in [peers - 1, peers] {
+            let lengths = Lengths { records: records as usize, ..Lengths::USUAL };
+            self.planned.push_back(Event::Call(call.clone(), lengths));
         }
     }
 
@@ -490,7 +492,7 @@ impl Generator {
     }
 }
 
-/// A hub's peers where they can be clamped to what a hub can have: its words may hold any number.
+/// A hub's peers, clamped to what a hub can have, since its words may hold any number.
 fn peers_of(hub: &Hub) -> u64 {
     hub.numbers.peers.clamp(1, PEERS)
 }
@@ -499,7 +501,7 @@ fn vectors_of(hub: &Hub) -> u64 {
     hub.numbers.vectors.clamp(1, VECTORS)
 }
 
-/// A number from `least` to `most`: mostly one of the few smallest, often above them, often the most.
+/// A number from `least` to `most`: half of the time up to `few`, otherwise above or the most itself.
 fn number(random: &mut Random, least: u64, few: u64, most: u64) -> u64 {
     match random.below(8) {
         0..4 => least + random.below(few + 1 - least),
@@ -526,7 +528,7 @@ pub fn good_settings(random: &mut Random) -> Settings {
         settings.output = settings.output.min(PAGE);
     }
     // Long regions take long to compare.
-    if peers > FEW_PEERS && random.chance(4, 5) {
+    if peers > FEW_PEERS && random.chance(2, 3) {
         settings.output = 0;
     }
     let total = Numbers::from(&settings).total();

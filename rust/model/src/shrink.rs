@@ -1,4 +1,6 @@
-//! Cuts a failing history short: drops events, then makes numbers simpler, as long as it still fails.
+//! Cuts a failing history short: drops events, lets fewer peers do it, then makes numbers simpler, as long as it still fails.
+
+use std::collections::BTreeSet;
 
 use crate::call::{Call, Event, Lengths};
 use crate::compare::{Failure, replay};
@@ -15,6 +17,7 @@ pub fn shrink<S: Subject>(make: &impl Fn() -> S, mut events: Vec<Event>) -> Fail
         let before = events.clone();
         drop_events(make, &mut events);
         drop_pairs(make, &mut events);
+        join_peers(make, &mut events);
         simplify_events(make, &mut events);
         if events == before {
             break;
@@ -58,6 +61,32 @@ fn drop_pairs<S: Subject>(make: &impl Fn() -> S, events: &mut Vec<Event>) {
         replay(make(), &shorter).map(|_| shorter)
     }) {
         *events = shorter;
+    }
+}
+
+/// Lets one peer do what two did: where there are many, a history has more of them than it needs.
+fn join_peers<S: Subject>(make: &impl Fn() -> S, events: &mut Vec<Event>) {
+    let ids: BTreeSet<u64> = events.iter_mut().filter_map(|event| id_of(event).copied()).collect();
+    for (from, to) in ids.iter().flat_map(|from| ids.range(..from).map(move |to| (from, to))) {
+        let mut joined = events.clone();
+        for id in joined.iter_mut().filter_map(id_of).filter(|id| **id == *from) {
+            *id = *to;
+        }
+        if joined != *events && replay(make(), &joined).is_some() {
+            *events = joined;
+        }
+    }
+    cut_after_failure(make, events);
+}
+
+/// The peer that a call is by or on.
+fn id_of(event: &mut Event) -> Option<&mut u64> {
+    match event {
+        Event::Call(Call::SetUp(_), _) | Event::Flip { .. } | Event::Plant(..) => None,
+        Event::Call(call, _) => match field_of(call, 0) {
+            Some(Field::Long(id)) => Some(id),
+            _ => None,
+        },
     }
 }
 

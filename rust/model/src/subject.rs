@@ -91,22 +91,20 @@ pub struct Model {
     pub rings: Vec<Ring>,
     /// The refusals that applied beside the one given.
     pub also: Vec<u32>,
-    /// The set-up numbers of the hub afterwards, and the records that were lent.
+    /// The set-up numbers of the hub that the call left, and the records that were lent.
     pub numbers: Numbers,
     pub records: usize,
 }
 
 impl Subject for Model {
     fn perform(&mut self, call: &Call, lent: Lent<'_>) -> Answer {
-        self.rings.clear();
-        self.also.clear();
+        *self = Model { records: lent.table.len(), ..Model::default() };
         let Some(mut hub) = decode(lent.words) else {
             // Words of another length are no hub, whatever they hold. The rules' "all-zero hub" of a refused set-up is read as
             // what 1 and 2 leave: where the words can't hold a hub they stay as they were, as with every other refusal.
             return self.refused(Refused(vec![10]));
         };
         let Lent { words, region, table, buffer } = lent;
-        self.records = table.len();
         let outcome = self.step(&mut hub, call, region, table.len(), buffer);
         self.numbers = hub.numbers;
         match outcome {

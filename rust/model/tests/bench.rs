@@ -158,7 +158,7 @@ fn numbers_accepted_at_set_up() {
 
 /// Sixty-four peers with sixteen vectors, and everything on at vectors 0 and 15.
 fn largest() -> Bench {
-    let settings = Settings { peers: 64, vectors: 16, ..four_peers(16) };
+    let settings = Settings { peers: 64, vectors: 16, output: 4096, ..four_peers(16) };
     let ids: Vec<u64> = (0..64).collect();
     let mut bench = Bench::new(settings, &ids);
     for id in ids {
@@ -207,6 +207,12 @@ fn last_peer_and_last_vector() {
     assert_eq!(bench.number(Call::MsixWrite { id: 63, offset: 0x10c, width: 4, value: 1 }), 0);
     assert_eq!(bench.number(Call::Connect { id: 63 }), 5);
     assert_eq!(bench.number(Call::Connect { id: 64 }), 3);
+    let own = 4096 + 63 * 4096;
+    let stores =
+        [(63, own, 4096, 0), (62, own, 1, 9), (63, own - 1, 1, 9), (63, own + 4095, 2, 8), (63, own + 4096, 1, 8)];
+    for (id, offset, length, number) in stores {
+        assert_eq!(bench.number(Call::Store { id, offset, length, fill: 7 }), number);
+    }
 }
 
 #[test]

@@ -4,17 +4,7 @@ use std::io::Write;
 use std::time::Instant;
 
 use model::compare;
-use model::count::SIZES;
 use model::subject::Library;
-
-/// The least of each of [`SIZES`], in its order.
-#[rustfmt::skip]
-const AT_SIZES: [u64; SIZES.len()] = [
-    1_000_000, 500_000, 500_000, 300_000, 100_000, // calls on large hubs
-    200, 100_000, 5_000, // deliveries to all others, tables
-    10_000, 1_000, 150, 400, 3_000, 600, // the last id and vector, and one beyond
-    300, 200, 200, // set-ups
-];
 
 #[test]
 fn library_and_model_agree() {
@@ -28,7 +18,7 @@ fn library_and_model_agree() {
     let _ = writeln!(std::io::stdout().lock(), "{counts}\n{:.1} s", start.elapsed().as_secs_f64());
     assert!(counts.total() >= CALLS);
 
-    // Every answer that a call can give, every switch that alone stops a ring, and nothing that can't be.
+    // Every answer that a call can give, every switch that alone stops a ring, the edges of the sizes, and nothing that can't be.
     assert_eq!(counts.gaps(100), Vec::<String>::new());
     for accepted in counts.calls.map(|kind| kind[0]) {
         assert!(accepted >= 6_000, "{accepted} calls of a kind accepted");
@@ -37,7 +27,4 @@ fn library_and_model_agree() {
     assert!(counts.one_shot >= 20_000);
     assert!(counts.several >= 20_000);
     assert!(counts.lost_alone.iter().all(|&rings| rings >= 3_000));
-    for ((name, count), least) in SIZES.iter().zip(counts.sizes).zip(AT_SIZES) {
-        assert!(count >= least, "{name}: {count}");
-    }
 }
