@@ -175,7 +175,7 @@ fn at_sizes(call: &Call, answer: &Answer, model: &Model) -> [bool; SIZES.len()] 
     let (peers, vectors, records) = (model.numbers.peers, model.numbers.vectors, model.records as u64);
     let taken = answer.number == 0;
     let on = taken && call.peer().is_some();
-    let all = |call: bool| call && answer.count as u64 == LAST_PEER;
+    let to_all = |kind: bool| kind && answer.count as u64 == LAST_PEER;
     let tabled =
         peers > FEW_PEERS && matches!(call, Call::RegisterWrite { .. } | Call::Reset { .. } | Call::Disconnect { .. });
     let rung = doorbell(call, model);
@@ -185,9 +185,9 @@ fn at_sizes(call: &Call, answer: &Answer, model: &Model) -> [bool; SIZES.len()] 
         on && vectors > FEW_VECTORS,
         on && vectors == VECTORS,
         on && peers == PEERS && vectors == VECTORS,
-        all(matches!(call, Call::RegisterWrite { .. })),
-        all(matches!(call, Call::Reset { .. })),
-        all(matches!(call, Call::Disconnect { .. })),
+        to_all(matches!(call, Call::RegisterWrite { .. })),
+        to_all(matches!(call, Call::Reset { .. })),
+        to_all(matches!(call, Call::Disconnect { .. })),
         tabled && answer.count as u64 == peers - 1 && records == peers,
         tabled && answer.number == 11 && records == peers - 1,
         on && call.peer() == Some(LAST_PEER),

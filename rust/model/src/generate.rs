@@ -365,11 +365,10 @@ impl Generator {
 
     /// The vectors that a driver sets up: all, or of many the first, the last and another.
     fn booted(&mut self, vectors: u64) -> Vec<u64> {
-        let mut booted = vec![0, self.random.below(vectors), vectors - 1];
         if vectors <= FEW_VECTORS {
-            booted = (0..vectors).collect();
+            return (0..vectors).collect();
         }
-        booted
+        vec![0, self.random.below(vectors), vectors - 1]
     }
 
     /// What a driver does. Where the boot is not whole every step is left out now and then, so that single switches stay off.
