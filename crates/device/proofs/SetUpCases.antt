@@ -1,54 +1,47 @@
--- The cases of 'Numbers accepted at set-up', with the bounds of C-12, one table, checked by one theorem: the numbers that N, V and
--- S may have, and the next ones, which they may not. So the bounds themselves are held to the rules, and not only code to bounds.
+-- The cases of 'Numbers accepted at set-up', with the bounds of C-12, one table, checked by one theorem: what a set-up answers where
+-- N, V or S is at a bound, or next to it. So the bounds themselves are held to the rules, and not only the code to the bounds.
 use Prim.Native.Nat.{ℕ, _^_}
-use mathlib.Core.Bool.{Bool, true, false}
+use mathlib.Core.Bool.{true}
 use mathlib.Core.List.{List, [], _∷_}
 use mathlib.Core.Path.{_≡_, refl}
-use Rattle.common.specs.Tests.{every}
+use lib.ListN.{replicate}
+use Rattle.common.specs.Tests.{first, every}
 use Rattle.device.specs.declared.Settings.{Settings}
-use Rattle.device.specs.SetUp.{total, accepted}
+use Rattle.device.specs.SetUp.{total, accepted, setUpRefusal}
 use Rattle.device.specs.Sizes.{maxPeers, maxVectors}
+use Rattle.device.proofs.BenchCases.{Case, Right}
 
--- a set-up, and whether the rules accept it
-pub record Case : Type 0 where
-  pub numbers : Settings
-  pub taken : Bool
-
--- a set-up with N, V and S, in which all else is right
-abbrev case : ℕ → ℕ → ℕ → Bool → Case
-case n v s taken =
-    record { numbers = record { peers = n; vectors = v; table = s; common = 0; output = 0; base = 2 ^ 32; protocol = 0; vendor = 0; subsystem = 0 }; taken = taken }
+-- a set-up with N, V and S in which all else is right, and the number that the rules give it
+abbrev case : ℕ → ℕ → ℕ → ℕ → Case
+case n v s says =
+    let numbers : Settings = record { peers = n; vectors = v; table = s; common = 0; output = 0; base = 2 ^ 32; protocol = 0; vendor = 0; subsystem = 0 } in
+    record { gives = setUpRefusal true numbers (replicate s 0) ∷ []; says = says ∷ [] }
 
 pub cases : List Case
 cases =
-    -- 'N goes to 2 to 64', 'N = 65 .. refused', 9 accepted now
-    case 1 1 4096 false
-    ∷ case 2 1 4096 true
-    ∷ case 8 1 4096 true
-    ∷ case 9 1 4096 true
-    ∷ case 64 1 4096 true
-    ∷ case 65 1 4096 false
-    -- 'V to 1 to 16', 'V = 17 .. refused', 5 accepted now
-    ∷ case 2 0 4096 false
-    ∷ case 2 1 4096 true
-    ∷ case 2 4 4096 true
-    ∷ case 2 5 4096 true
-    ∷ case 2 16 4096 true
-    ∷ case 2 17 4096 false
+    -- 'N goes to 2 to 64', 'N = 65 .. refused with 1', 9 accepted now
+    case 1 1 4096 1
+    ∷ case 2 1 4096 0
+    ∷ case 8 1 4096 0
+    ∷ case 9 1 4096 0
+    ∷ case 64 1 4096 0
+    ∷ case 65 1 4096 1
+    -- 'V to 1 to 16', 'V = 17 .. refused with 1', 5 accepted now
+    ∷ case 2 0 4096 1
+    ∷ case 2 1 4096 0
+    ∷ case 2 4 4096 0
+    ∷ case 2 5 4096 0
+    ∷ case 2 16 4096 0
+    ∷ case 2 17 4096 1
     -- both at once
-    ∷ case 64 16 4096 true
+    ∷ case 64 16 4096 0
     -- 'S = 0 or 4100 refused, 4096 taken'
-    ∷ case 2 1 0 false
-    ∷ case 2 1 4100 false
+    ∷ case 2 1 0 1
+    ∷ case 2 1 4100 1
     ∷ []
-
--- the definition says of each set-up of a list what the rules say
-abbrev pub Right : List Case → Type 0
-Right [] = Unit {0}
-Right (c ∷ cs) = (accepted (c .numbers) ≡ c .taken) × Right cs
 
 -- each case by computation
 pub set-ups : Right cases
-unfolding cases every total accepted maxPeers maxVectors
+unfolding cases first every total accepted setUpRefusal maxPeers maxVectors
 set-ups =
     (refl, (refl, (refl, (refl, (refl, (refl, (refl, (refl, (refl, (refl, (refl, (refl, (refl, (refl, (refl, tt)))))))))))))))
