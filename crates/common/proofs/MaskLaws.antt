@@ -1,13 +1,14 @@
 -- Laws of `only` and `merge`: a number under a mask keeps to the mask, byte by byte too, and so does a byte that a write merges.
-use Prim.Native.Nat.{ℕ, zero, suc, _+_, _-_, _*_, _/_, _%_, _^_, _<_, min}
-use mathlib.Core.Bool.{true}
+use Prim.Native.Nat.{ℕ, zero, suc, _+_, _-_, _*_, _/_, _%_, _^_, _<_, min, max}
+use mathlib.Core.Bool.{true, _&&_}
 use mathlib.Core.Path.{_≡_, sym, ap, _∙_}
 use native.Mathlib.Omega.{arith}
 use borrow.Author.Tests.{eqb-true, eq-eqb}
 use lib.Arith.{bin-ind}
-use lib.Bits.{bitAnd, and-step, or-step, and-zero-l, and-zero-r, or-zero-l, and-block, and-le-r}
+use lib.Bits.{bitAnd, bitOr, bitXor, and-step, or-step, and-zero-l, and-zero-r, or-zero-l, or-comm, xor-self, xor-add-and, and-block, and-le-l, and-le-r}
 use lib.Dec.{eqb}
 use Rattle.common.specs.Bytes.{bit, only, merge}
+use Rattle.common.proofs.TestLaws.{and-left, and-right, alike}
 
 -- a number under a mask, once more under it
 and-again : (a m : ℕ) → bitAnd (bitAnd a m) m ≡ bitAnd a m
@@ -72,3 +73,57 @@ bit-merge m old new h k =
     let c : merge m old new / 2 % 2 ≡ new / 2 % 2 =
     omega (arith, or-step (bitAnd old (255 - m)) (bitAnd new m), or-step (bitAnd old (255 - m) / 2) (bitAnd new m / 2)) in
     ap (λ (x : ℕ). eqb x 1) c
+
+-- a number whose bits are some of another's keeps to a mask that the other keeps to
+or-part : (a b m : ℕ) → bitAnd (bitOr a b) m ≡ bitOr a b → bitAnd a m ≡ a
+or-part a = bin-ind (λ n. (b m : ℕ) → bitAnd (bitOr n b) m ≡ bitOr n b → bitAnd n m ≡ n) (λ b m e. and-zero-l m) more a
+  where
+    more : (n : ℕ) → ((b m : ℕ) → bitAnd (bitOr (n / 2) b) m ≡ bitOr (n / 2) b → bitAnd (n / 2) m ≡ n / 2)
+        → (b m : ℕ) → bitAnd (bitOr n b) m ≡ bitOr n b → bitAnd n m ≡ n
+    more n ih b m e =
+        let half : bitOr n b / 2 ≡ bitOr (n / 2) (b / 2) = omega (arith, or-step n b) in
+        let odd : bitOr n b % 2 ≡ max (n % 2) (b % 2) = omega (arith, or-step n b) in
+        let s : bitAnd (bitOr n b) m ≡ bitAnd (bitOr (n / 2) (b / 2)) (m / 2) * 2 + min (max (n % 2) (b % 2)) (m % 2) =
+        and-step (bitOr n b) m ∙ rw (half, odd) in
+        let rest : bitAnd (bitOr (n / 2) (b / 2)) (m / 2) ≡ bitOr (n / 2) (b / 2) = omega (arith, or-step n b) in
+        let digit : min (n % 2) (m % 2) ≡ n % 2 = omega (arith, or-step n b) in
+        and-step n m ∙ rw (ih (b / 2) (m / 2) rest, digit) (omega arith)
+
+-- two numbers that keep to a mask do so together
+or-both : (a b m : ℕ) → bitAnd a m ≡ a → bitAnd b m ≡ b → bitAnd (bitOr a b) m ≡ bitOr a b
+or-both a = bin-ind (λ n. (b m : ℕ) → bitAnd n m ≡ n → bitAnd b m ≡ b → bitAnd (bitOr n b) m ≡ bitOr n b) (λ b m e f. f) more a
+  where
+    more : (n : ℕ) → ((b m : ℕ) → bitAnd (n / 2) m ≡ n / 2 → bitAnd b m ≡ b → bitAnd (bitOr (n / 2) b) m ≡ bitOr (n / 2) b)
+        → (b m : ℕ) → bitAnd n m ≡ n → bitAnd b m ≡ b → bitAnd (bitOr n b) m ≡ bitOr n b
+    more n ih b m e f =
+        let half : bitOr n b / 2 ≡ bitOr (n / 2) (b / 2) = omega (arith, or-step n b) in
+        let odd : bitOr n b % 2 ≡ max (n % 2) (b % 2) = omega (arith, or-step n b) in
+        let first : bitAnd (n / 2) (m / 2) ≡ n / 2 = omega (arith, and-step n m) in
+        let second : bitAnd (b / 2) (m / 2) ≡ b / 2 = omega (arith, and-step b m) in
+        let digit : min (max (n % 2) (b % 2)) (m % 2) ≡ max (n % 2) (b % 2) = omega (arith, and-step n m, and-step b m) in
+        and-step (bitOr n b) m ∙ rw (half, odd, ih (b / 2) (m / 2) first second, digit) (omega (arith, or-step n b))
+
+-- words collected by or keep to a mask exactly where each does
+pub only-or : (m a b : ℕ) → only m (bitOr a b) ≡ (only m a && only m b)
+only-or m a b =
+    alike (only m (bitOr a b)) (only m a && only m b)
+    (λ e.
+    let whole : bitAnd (bitOr a b) m ≡ bitOr a b = eqb-true _ _ e in
+    rw (eq-eqb _ _ (or-part a b m whole)) (eq-eqb _ _ (or-part b a m (rw (or-comm b a) whole))))
+    (λ e. eq-eqb _ _ (or-both a b m (eqb-true _ _ (and-left (only m a) (only m b) e)) (eqb-true _ _ (and-right (only m a) (only m b) e))))
+
+-- a number is 0 exactly where it keeps to the empty mask
+pub only-none : (x : ℕ) → only 0 x ≡ eqb x 0
+only-none x = rw (and-zero-r x) (alike (eqb 0 x) (eqb x 0) (λ e. eq-eqb x 0 (sym (eqb-true 0 x e))) (λ e. eq-eqb 0 x (sym (eqb-true x 0 e))))
+
+-- two numbers differ in no bit exactly where they are equal
+pub xor-none : (a b : ℕ) → eqb (bitXor a b) 0 ≡ eqb a b
+xor-none a b =
+    alike (eqb (bitXor a b) 0) (eqb a b)
+    (λ e.
+    let z : bitXor a b ≡ 0 = eqb-true _ _ e in
+    eq-eqb a b (omega (arith, xor-add-and a b, and-le-l a b, and-le-r a b)))
+    (λ e. eq-eqb (bitXor a b) 0 (rw (eqb-true a b e) (xor-self b)))
+
+pub or-none : (a b : ℕ) → eqb (bitOr a b) 0 ≡ (eqb a 0 && eqb b 0)
+or-none a b = sym (only-none (bitOr a b)) ∙ only-or 0 a b ∙ rw (only-none a, only-none b)

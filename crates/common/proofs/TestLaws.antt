@@ -1,8 +1,9 @@
 -- Laws of specs/Tests.antt.
-use Prim.Native.Nat.{ℕ, zero, suc, _<_, _≤_}
+use Prim.Native.Nat.{ℕ, zero, suc, _+_, _*_, _<_, _≤_}
 use mathlib.Core.Bool.{Bool, true, false, cond, _&&_}
 use mathlib.Core.Path.{_≡_, refl, sym, _∙_}
 use mathlib.Core.List.{List, [], _∷_, _++_}
+use native.Mathlib.Nat.{add-zero, zero-mul, suc-mul}
 use native.Mathlib.Omega.{arith}
 use lib.Dec.{eqb, leb, ltb}
 use borrow.Author.Tests.{leb-true, ltb-true, eqb-true, eqb-false}
@@ -16,6 +17,20 @@ and-left false b e = e
 pub and-right : (a b : Bool) → a && b ≡ true → b ≡ true
 and-right true b e = e
 and-right false b e = let z : _≡_ {A = ℕ} 0 1 = cc in absurd (omega arith)
+
+pub and-true : (a : Bool) → (a && true) ≡ a
+and-true true = refl
+and-true false = refl
+
+and-assoc : (a b c : Bool) → ((a && b) && c) ≡ (a && (b && c))
+and-assoc true b c = refl
+and-assoc false b c = refl
+
+pub and-swap : (a b c d : Bool) → ((a && b) && (c && d)) ≡ ((a && c) && (b && d))
+and-swap false b c d = refl
+and-swap true true c d = refl
+and-swap true false true d = refl
+and-swap true false false d = refl
 
 -- one test more
 pub below-suc : (n : ℕ) (t : ℕ → Bool) → below (suc n) t ≡ (below n t && t n)
@@ -129,3 +144,29 @@ pub first-zero : (n : ℕ) (b : Bool) (rows : List Row) → first (row (suc n) b
 unfolding first
 first-zero n true rows e = absurd (omega arith)
 first-zero n false rows e = (refl, e)
+
+-- two tests that hold together are one
+pub alike : (a b : Bool) → (a ≡ true → b ≡ true) → (b ≡ true → a ≡ true) → a ≡ b
+alike true b f g = sym (f refl)
+alike false true f g = g refl
+alike false false f g = refl
+
+-- a test at every number below a sum: those of the first part, then those of the second
+pub below-add : (a n : ℕ) (t : ℕ → Bool) → below (a + n) t ≡ (below a t && below n (λ k. t (a + k)))
+unfolding below
+below-add a zero t = rw add-zero (sym (and-true (below a t)))
+below-add a (suc n) t =
+    let e : a + suc n ≡ suc (a + n) = omega arith in
+    rw (e, below-add a n t) (and-assoc (below a t) (below n (λ k. t (a + k))) (t (a + n)))
+
+-- a test at every entry of n rows of m entries each, row by row
+pub below-rows : (n m : ℕ) (t : ℕ → Bool) → below (n * m) t ≡ below n (λ i. below m (λ v. t (i * m + v)))
+unfolding below
+below-rows zero m t = rw zero-mul
+below-rows (suc n) m t =
+    rw (suc-mul n m, below-add (n * m) m t, below-rows n m t)
+
+pub below-ext : (n : ℕ) (t u : ℕ → Bool) → ((i : ℕ) → i < n → t i ≡ u i) → below n t ≡ below n u
+unfolding below
+below-ext zero t u same = refl
+below-ext (suc n) t u same = rw (below-ext n t u (λ i h. same i (omega arith)), same n (omega arith))

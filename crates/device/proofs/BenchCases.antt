@@ -18,7 +18,7 @@ use Rattle.device.specs.Registers.{registerAt, memoryOn, registerValue}
 use Rattle.device.specs.Sections.{outputs, sections, sectionIn, sectionOf, somewhere, mayStore}
 use Rattle.device.specs.SetUp.{total, accepted, freshHub}
 use Rattle.device.specs.Sizes.{maxPeers, maxVectors}
-use Rattle.device.specs.Sound.{peerFixed, peerReset, entryFixed, entryReset, inUse, vectorsInUse, peerSound, entrySound, slotSound, sound}
+use Rattle.device.specs.Sound.{peerFixed, peerReset, entryFixed, entryReset, peerSound, entrySound, slotSound, sound}
 use Rattle.device.specs.Step.{Outcome, run, runAll, stepBy, step}
 use Rattle.device.specs.World.{World, world, zeroSlot, resetSlot}
 
@@ -98,6 +98,6 @@ Right (c ∷ cs) = (c .gives ≡ c .says) × Right cs
 
 -- each case by computation
 pub bench : Right cases
-unfolding cases bytes number setByte first every below Configuration.configurationRead fields fieldByte configurationByte masks maskIn maskAt maskOf withByte writtenByte configurationWritten effect lentTo accessOf wrongRegion shortTable missing present wrongWidth misaligned outside forbidden isConnected refusal Registers.registerRead registerAt memoryOn registerValue outputs sections sectionIn sectionOf somewhere mayStore total accepted freshHub maxPeers maxVectors peerFixed peerReset entryFixed entryReset inUse vectorsInUse peerSound entrySound slotSound sound run runAll stepBy step zeroSlot resetSlot
+unfolding cases bytes number setByte first every below Configuration.configurationRead fields fieldByte configurationByte masks maskIn maskAt maskOf withByte writtenByte configurationWritten effect lentTo accessOf wrongRegion shortTable missing present wrongWidth misaligned outside forbidden isConnected refusal Registers.registerRead registerAt memoryOn registerValue outputs sections sectionIn sectionOf somewhere mayStore total accepted freshHub maxPeers maxVectors peerFixed peerReset entryFixed entryReset peerSound entrySound slotSound sound run runAll stepBy step zeroSlot resetSlot
 bench =
     (refl, (refl, (refl, (refl, (refl, (refl, (refl, (refl, (refl, (refl, (refl, (refl, (refl, (refl, tt))))))))))))))

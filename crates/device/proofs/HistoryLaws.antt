@@ -64,59 +64,59 @@ taken w c e =
 -- What a call leaves in the caller's slot is sound.
 
 abbrev pub Sound : Settings → ℕ → Slot → Type 0
-Sound s i slot = slotSound s i slot ≡ true
+Sound s i slot = slotSound s slot ≡ true
 
-stored-sound : (s : Settings) (who : ℕ) (slot : Slot) (r : Register) (x : ℕ) → who < s .peers → slot .peer .connected ≡ 1 → Sound s who slot
+stored-sound : (s : Settings) (who : ℕ) (slot : Slot) (r : Register) (x : ℕ) → slot .peer .connected ≡ 1 → Sound s who slot
     → Leaves (Sound s who) slot (registerStored who slot r x)
 unfolding registerStored announces
-stored-sound s who slot Register.identity x h c e = e
-stored-sound s who slot Register.maximumPeers x h c e = e
-stored-sound s who slot Register.interruptControl x h c e =
-    let u = used s who slot h c e in
+stored-sound s who slot Register.identity x c e = e
+stored-sound s who slot Register.maximumPeers x c e = e
+stored-sound s who slot Register.interruptControl x c e =
+    let u = used s slot c e in
     let f = u .fixed in
-    peer-sound s who slot (withInterrupt (slot .peer) (bitAnd x 1)) h c u
+    peer-sound s slot (withInterrupt (slot .peer) (bitAnd x 1)) c u
     (record { command = f .command; bar0 = f .bar0; bar1 = f .bar1; privileged = f .privileged; message = f .message; interrupt = only-and 1 x })
-stored-sound s who slot Register.doorbell x h c e = (e, λ later f. f)
-stored-sound s who slot Register.state x h c e =
-    let u = used s who slot h c e in
+stored-sound s who slot Register.doorbell x c e = (e, λ later f. f)
+stored-sound s who slot Register.state x c e =
+    let u = used s slot c e in
     let f = u .fixed in (
-      peer-sound s who slot (withState (slot .peer) (stateValue x)) h c u
+      peer-sound s slot (withState (slot .peer) (stateValue x)) c u
           (record { command = f .command; bar0 = f .bar0; bar1 = f .bar1; privileged = f .privileged; message = f .message; interrupt = f .interrupt }),
       λ later f. f,
     )
-stored-sound s who slot Register.none x h c e = e
+stored-sound s who slot Register.none x c e = e
 
-effect-sound : (s : Settings) (who : ℕ) (slot : Slot) (region : List ℕ) (a : Act) → who < s .peers
+effect-sound : (s : Settings) (who : ℕ) (slot : Slot) (region : List ℕ) (a : Act)
     → missing (eqb (slot .peer .connected) 1) (accessOf a) ≡ false → Sound s who slot
     → Leaves (Sound s who) slot (effect s who slot region a .operations)
 unfolding effect announces accessOf missing
-effect-sound s who slot region connect h m e = present-sound s who h
-effect-sound s who slot region (disconnect n) h m e = (absent-sound s who, λ later f. f)
-effect-sound s who slot region (reset n) h m e = (present-sound s who h, λ later f. f)
-effect-sound s who slot region (configurationRead at w) h m e = e
-effect-sound s who slot region (configurationWrite at w x) h m e =
+effect-sound s who slot region connect m e = present-sound s
+effect-sound s who slot region (disconnect n) m e = (absent-sound s, λ later f. f)
+effect-sound s who slot region (reset n) m e = (present-sound s, λ later f. f)
+effect-sound s who slot region (configurationRead at w) m e = e
+effect-sound s who slot region (configurationWrite at w x) m e =
     let c : slot .peer .connected ≡ 1 = eqb-true _ _ (not-false _ m) in
-    let u = used s who slot h c e in
-    peer-sound s who slot (configurationWritten s (slot .peer) at w x) h (written-connected s (slot .peer) at w x ∙ c) u
+    let u = used s slot c e in
+    peer-sound s slot (configurationWritten s (slot .peer) at w x) (written-connected s (slot .peer) at w x ∙ c) u
     (written-fixed s (slot .peer) at w x (u .fixed))
-effect-sound s who slot region (registerRead at w) h m e = e
-effect-sound s who slot region (registerWrite n at w x) h m e = go (memoryOn (slot .peer))
+effect-sound s who slot region (registerRead at w) m e = e
+effect-sound s who slot region (registerWrite n at w x) m e = go (memoryOn (slot .peer))
   where
     go : (t : Bool) → Leaves (Sound s who) slot (cond t (registerStored who slot (registerAt at) x) [])
-    go true = stored-sound s who slot (registerAt at) x h (eqb-true _ _ (not-false _ m)) e
+    go true = stored-sound s who slot (registerAt at) x (eqb-true _ _ (not-false _ m)) e
     go false = e
-effect-sound s who slot region (msixRead at w) h m e = e
-effect-sound s who slot region (msixWrite at w x) h m e = go (memoryOn (slot .peer))
+effect-sound s who slot region (msixRead at w) m e = e
+effect-sound s who slot region (msixWrite at w x) m e = go (memoryOn (slot .peer))
   where
     c : slot .peer .connected ≡ 1
     c = eqb-true _ _ (not-false _ m)
 
     go : (t : Bool) → Leaves (Sound s who) slot (cond t (Operation.own (msixWritten s slot at x) ∷ []) [])
-    go true = msix-sound s who slot at x h c (used s who slot h c e)
+    go true = msix-sound s slot at x c (used s slot c e)
     go false = e
-effect-sound s who slot region (question at n) h m e = e
-effect-sound s who slot region (load at n) h m e = e
-effect-sound s who slot region (store at bs) h m e = e
+effect-sound s who slot region (question at n) m e = e
+effect-sound s who slot region (load at n) m e = e
+effect-sound s who slot region (store at bs) m e = e
 
 -- Command bit 1: what a call leaves in the caller's slot is what the accepted calls say.
 
@@ -203,33 +203,33 @@ memory-other i c past d = rw (ne-eqb (c .who) i (λ e. d (sym e)))
 -- The worlds of a history.
 
 abbrev pub framed : Settings → Frame
-framed s = record { settings = s; slots = maxPeers; room = total s }
+framed s = record { settings = s; slots = s .peers; room = total s }
 
 pub record Fit (s : Settings) (w : World) : Type 0 where
   pub fixed : frame w ≡ framed s
-  pub slots : Every (Sound s) maxPeers (w .hub)
+  pub slots : Every (Sound s) (s .peers) (w .hub)
 
 -- Command bit 1 of every slot, after the accepted calls so far
-abbrev pub Remembered : List Call → World → Type 0
-Remembered past w = Every (λ i slot. Tracks (memoryBit i past) slot) maxPeers (w .hub)
+abbrev pub Remembered : Settings → List Call → World → Type 0
+Remembered s past w = Every (λ i slot. Tracks (memoryBit i past) slot) (s .peers) (w .hub)
 
 pub fit-sound : (s : Settings) (w : World) → accepted s ≡ true → Fit s w → sound (w .hub) ≡ true
 unfolding sound
 fit-sound s w a f =
     let e : w .hub .settings ≡ s = ap (λ (x : Frame). x .settings) (f .fixed) in
-    rw e (ap₂ (λ (x y : Bool). x && y) a (true-below maxPeers (λ i. slotSound s i (slotAt (w .hub) i)) (f .slots)))
+    rw e (ap₂ (λ (x y : Bool). x && y) a (true-below (s .peers) (λ i. slotSound s (slotAt (w .hub) i)) (f .slots)))
 
 pub start-fit : (s : Settings) → Fit s (start s)
 unfolding start freshHub
 start-fit s =
     record {
-      fixed = λ i. record { settings = s; slots = length-replicate maxPeers (resetSlot 0) i; room = length-replicate {A = ℕ} (total s) 0 i };
-      slots = λ i h. rw (getD-replicate maxPeers i (resetSlot 0) zeroSlot h) (absent-sound s i);
+      fixed = λ i. record { settings = s; slots = length-replicate (s .peers) (resetSlot (s .vectors) 0) i; room = length-replicate {A = ℕ} (total s) 0 i };
+      slots = λ i h. rw (getD-replicate (s .peers) i (resetSlot (s .vectors) 0) zeroSlot h) (absent-sound s);
     }
 
-pub start-remembered : (s : Settings) → Remembered [] (start s)
+pub start-remembered : (s : Settings) → Remembered s [] (start s)
 unfolding start freshHub memoryBit memoryOn resetSlot
-start-remembered s i h = rw (getD-replicate maxPeers i (resetSlot 0) zeroSlot h) (λ c. refl)
+start-remembered s i h = rw (getD-replicate (s .peers) i (resetSlot (s .vectors) 0) zeroSlot h) (λ c. refl)
 
 -- an accepted call, and what it keeps of every slot
 pub taken-world : (w : World) (c : Call) → refusal w c ≡ 0 → step w c .world ≡ runAll (c .who) w (effectIn w c .operations) .world
@@ -245,15 +245,12 @@ module _ (s : Settings) (w : World) (c : Call) (a : accepted s ≡ true) (f : Fi
   pub small : refusal w c ≡ 0 → c .who < s .peers
   small e = rw same at (taken w c e .small)
 
-  pub taken-small : refusal w c ≡ 0 → c .who < maxPeers
-  taken-small e = le-trans (small e) (accepted-facts s a .peers)
-
   pub slots-keep : (P : ℕ → Slot → Type 0) → ((i : ℕ) (g : Gate) (slot : Slot) → P i slot → P i (afterDelivery g slot)) → refusal w c ≡ 0
-      → ((i : ℕ) → i < maxPeers → (i ≡ c .who → ⊥) → P i (slotAt (w .hub) i))
-      → Leaves (P (c .who)) (slotAt (w .hub) (c .who)) (effectIn w c .operations) → Every P maxPeers (step w c .world .hub)
+      → ((i : ℕ) → i < s .peers → (i ≡ c .who → ⊥) → P i (slotAt (w .hub) i))
+      → Leaves (P (c .who)) (slotAt (w .hub) (c .who)) (effectIn w c .operations) → Every P (s .peers) (step w c .world .hub)
   slots-keep P keeps e others leaves =
       rw (taken-world w c e)
-      (runAll-keeps P keeps maxPeers (c .who) (taken-small e) w (effectIn w c .operations)
+      (runAll-keeps P keeps (s .peers) (c .who) (small e) w (effectIn w c .operations)
       (ap (λ (x : Frame). x .slots) (f .fixed)) others leaves)
 
   taken-fit : refusal w c ≡ 0 → Fit s (step w c .world)
@@ -262,24 +259,24 @@ module _ (s : Settings) (w : World) (c : Call) (a : accepted s ≡ true) (f : Fi
       record {
         fixed = ap (λ (x : World). frame x) (taken-world w c e) ∙ runAll-frame (c .who) w (effectIn w c .operations) ∙ f .fixed;
         slots =
-            slots-keep (Sound s) (delivery-sound s) e (λ i h d. f .slots i h)
+            slots-keep (Sound s) (λ i. delivery-sound s) e (λ i h d. f .slots i h)
             (subst (λ (x : Settings). Leaves (Sound s (c .who)) (slotAt (w .hub) (c .who)) (effect x (c .who) (slotAt (w .hub) (c .who)) (w .region) (c .act) .operations)) (sym same)
-            (effect-sound s (c .who) (slotAt (w .hub) (c .who)) (w .region) (c .act) (small e) (taken w c e .there)
-            (f .slots (c .who) (taken-small e))));
+            (effect-sound s (c .who) (slotAt (w .hub) (c .who)) (w .region) (c .act) (taken w c e .there)
+            (f .slots (c .who) (small e))));
       }
 
   pub step-fit : Fit s (step w c .world)
   step-fit = by-equal (refusal w c) 0 taken-fit (λ n. subst (Fit s) (sym (refused-world w c n)) f)
 
-  taken-remembered : (past : List Call) → Remembered past w → refusal w c ≡ 0 → Remembered (c ∷ past) (step w c .world)
+  taken-remembered : (past : List Call) → Remembered s past w → refusal w c ≡ 0 → Remembered s (c ∷ past) (step w c .world)
   taken-remembered past m e =
       slots-keep (λ i slot. Tracks (memoryBit i (c ∷ past)) slot) (λ i g slot h. delivery-memory (memoryBit i (c ∷ past)) g slot h) e
       (λ i h d. rw (memory-other i c past d) (m i h))
       (rw (memory-own c past)
       (effect-memory (w .hub .settings) (c .who) (slotAt (w .hub) (c .who)) (w .region) (c .act) (memoryBit (c .who) past)
-      (m (c .who) (taken-small e))))
+      (m (c .who) (small e))))
 
-  pub step-remembered : (past : List Call) → Remembered past w → Remembered (cond (isAccepted w c) (c ∷ past) past) (step w c .world)
+  pub step-remembered : (past : List Call) → Remembered s past w → Remembered s (cond (isAccepted w c) (c ∷ past) past) (step w c .world)
   step-remembered past m =
       by-equal (refusal w c) 0
       (λ (e : refusal w c ≡ 0). rw (eq-eqb (refusal w c) 0 e) (taken-remembered past m e))

@@ -14,7 +14,7 @@ use Rattle.device.specs.SetUp.{accepted}
 use Rattle.device.specs.Step.{Outcome, effectIn, step}
 use Rattle.device.specs.Window.{Item, memoryBit, items, isAccepted, windowFrom, window, Isolation}
 use Rattle.device.specs.World.{Slot, World, slotAt}
-use Rattle.device.proofs.HistoryLaws.{Fit, Tracks, Remembered, fit-sound, start-fit, start-remembered, step-fit, step-remembered, taken, taken-small}
+use Rattle.device.proofs.HistoryLaws.{Fit, Tracks, Remembered, fit-sound, start-fit, start-remembered, step-fit, step-remembered, taken, small}
 use Rattle.device.proofs.ReplayLaws.{Told, seen, toldBy, tell, replay, replay-both, replay-one, replay-fit, own-seen, sent-told}
 use Rattle.device.proofs.SeenLaws.{View, view, Sight, heardFirst, all-seen}
 use Rattle.device.proofs.StepLaws.{accepted-effect, refused-changes-nothing}
@@ -33,12 +33,12 @@ module _ (s : Settings) (a : accepted s ≡ true) (b : ℕ) (w w′ : World) (f 
       rw (eq-eqb b b refl)
       (own-seen b act w w′ (fit-sound s w a f) (fit-sound s w′ a f′) e ∙ ap (λ (r : Told). seen b r) (sym (replay-one b w′ (Item.own act))))
 
-  taken-call : (past : List Call) (c : Call) → Remembered past w → (c .who ≡ b → ⊥) → refusal w c ≡ 0
+  taken-call : (past : List Call) (c : Call) → Remembered s past w → (c .who ≡ b → ⊥) → refusal w c ≡ 0
       → seen b (toldBy b c (step w c)) ≡ seen b (replay b w′ (items b past true c))
   unfolding isConnected items
   taken-call past c m d r =
       let slot : Slot = slotAt (w .hub) (c .who) in
-      let memory : Tracks (memoryBit (c .who) past) slot = m (c .who) (taken-small s w c a f r) in
+      let memory : Tracks (memoryBit (c .who) past) slot = m (c .who) (small s w c a f r) in
       no-answer c (step w c) d
       ∙ ap (λ (o : Outcome). record { view = view b (o .world); heard = deliveriesTo b (o .deliveries) }) (accepted-effect w c r)
       ∙ all-seen b (c .who) false (ne-eqb (c .who) b d) (effectIn w c .operations) w w′ e
@@ -53,7 +53,7 @@ module _ (s : Settings) (a : accepted s ≡ true) (b : ℕ) (w w′ : World) (f 
       ∙ ap (λ (o : Outcome). record { view = view b (o .world); heard = deliveriesTo b (o .deliveries) }) (refused-changes-nothing w c n)
       ∙ rw (ne-eqb (c .who) b d) (ap (λ (x : View). record { view = x; heard = [] }) e)
 
-  call-seen : (past : List Call) (c : Call) → Remembered past w
+  call-seen : (past : List Call) (c : Call) → Remembered s past w
       → seen b (toldBy b c (step w c)) ≡ seen b (replay b w′ (items b past (isAccepted w c) c))
   call-seen past c m =
       by-equal (c .who) b
@@ -70,7 +70,7 @@ module _ (s : Settings) (a : accepted s ≡ true) (b : ℕ) (w w′ : World) (f 
 abbrev history : ℕ → World → List Call → Sight
 history b w cs = record { view = view b (after w cs); heard = observed b w cs }
 
-pub factored : (s : Settings) → accepted s ≡ true → (b : ℕ) (cs past : List Call) (w w′ : World) → Fit s w → Remembered past w → Fit s w′
+pub factored : (s : Settings) → accepted s ≡ true → (b : ℕ) (cs past : List Call) (w w′ : World) → Fit s w → Remembered s past w → Fit s w′
     → view b w ≡ view b w′ → history b w cs ≡ seen b (replay b w′ (windowFrom b past w cs))
 unfolding after observed windowFrom replay
 factored s a b [] past w w′ f m f′ e = ap (λ (x : View). record { view = x; heard = [] }) e

@@ -26,7 +26,7 @@ use Rattle.device.specs.Ring
 use Rattle.device.specs.Sections.{outputs, sections, sectionIn, sectionOf, somewhere, mayStore}
 use Rattle.device.specs.SetUp.{total, accepted, freshHub}
 use Rattle.device.specs.Sizes.{maxPeers, maxVectors}
-use Rattle.device.specs.Sound.{peerFixed, peerReset, entryFixed, entryReset, inUse, vectorsInUse, peerSound, entrySound, slotSound, sound}
+use Rattle.device.specs.Sound.{peerFixed, peerReset, entryFixed, entryReset, peerSound, entrySound, slotSound, sound}
 use Rattle.device.specs.Step.{run, runAll, stepBy, step}
 use Rattle.device.specs.Window.{Item, memoryAfter, memoryBit, sentBy, sent, items, windowFrom, window, Alike}
 use Rattle.device.specs.World.{zeroSlot, resetSlot}
@@ -170,7 +170,7 @@ interrupts (Observation.interrupted d ∷ os) = d ∷ interrupts os
 
 -- all that the examples compute with
 unfoldable pub computing : Unit {0}
-unfolding bytes number setByte first every below fields fieldByte configurationByte masks maskIn maskAt maskOf withByte writtenByte configurationWritten Configuration.configurationRead announces registerStored effect start observed deliveriesTo answerTo inTable withWord msixWritten lentTo accessOf wrongRegion shortTable missing present wrongWidth misaligned outside forbidden isConnected refusal registerAt memoryOn registerValue Registers.registerRead gateOf opens target deliveryOf afterDelivery ringAt ring ringFrom Ring.ringOthers outputs sections sectionIn sectionOf somewhere mayStore total accepted freshHub maxPeers maxVectors peerFixed peerReset entryFixed entryReset inUse vectorsInUse peerSound entrySound slotSound sound run runAll stepBy step memoryAfter memoryBit sentBy sent items windowFrom window zeroSlot resetSlot
+unfolding bytes number setByte first every below fields fieldByte configurationByte masks maskIn maskAt maskOf withByte writtenByte configurationWritten Configuration.configurationRead announces registerStored effect start observed deliveriesTo answerTo inTable withWord msixWritten lentTo accessOf wrongRegion shortTable missing present wrongWidth misaligned outside forbidden isConnected refusal registerAt memoryOn registerValue Registers.registerRead gateOf opens target deliveryOf afterDelivery ringAt ring ringFrom Ring.ringOthers outputs sections sectionIn sectionOf somewhere mayStore total accepted freshHub maxPeers maxVectors peerFixed peerReset entryFixed entryReset peerSound entrySound slotSound sound run runAll stepBy step memoryAfter memoryBit sentBy sent items windowFrom window zeroSlot resetSlot
 computing = tt
 
 calls-coded : Coded calls

@@ -22,7 +22,7 @@ use Rattle.device.specs.OneShot.{peerOf, interruptControl, oneShot, thro
 use Rattle.device.specs.Refusal.{isConnected, refusal}
 use Rattle.device.specs.Registers.{Register, registerAt, memoryOn}
 use Rattle.device.specs.SetUp.{accepted}
-use Rattle.device.specs.Sound.{peerFixed, peerReset, inUse, peerSound, slotSound}
+use Rattle.device.specs.Sound.{peerFixed, peerReset, peerSound, slotSound}
 use Rattle.device.specs.Step.{Ran, Outcome, run, runAll, refused, done, effectIn, step}
 use Rattle.device.specs.Window.{isAccepted}
 use Rattle.device.specs.World.{Slot, World, zeroSlot, resetSlot, slotAt}
@@ -34,9 +34,9 @@ use Rattle.device.proofs.SeenLaws.{Sight, view, sight, reach, all-seen}
 use Rattle.device.proofs.StepLaws.{never, accepted-effect, refused-changes-nothing}
 
 -- Interrupt Control is 0 or 1 in every sound slot, and so in every world of a history.
-sound-control : (s : Settings) (i : ℕ) (slot : Slot) → slotSound s i slot ≡ true → slot .peer .interrupt ≤ 1
+sound-control : (s : Settings) (slot : Slot) → slotSound s slot ≡ true → slot .peer .interrupt ≤ 1
 unfolding slotSound peerSound peerReset
-sound-control s i slot e = go (inUse s i (slot .peer)) (and-left (peerSound s i (slot .peer)) _ e)
+sound-control s slot e = go (eqb (slot .peer .connected) 1) (and-left (peerSound s (slot .peer)) _ e)
   where
     go : (t : Bool) → cond t (peerFixed s (slot .peer)) (peerReset (slot .peer)) ≡ true → slot .peer .interrupt ≤ 1
     go true f =
@@ -57,7 +57,7 @@ pub control-bit : (s : Settings) (w : World) → Fit s w → (b : ℕ) → inter
 unfolding zeroSlot
 control-bit s w f b =
     by-slot w b
-    (λ (l : b < length (w .hub .slots)). sound-control s b (slotAt (w .hub) b) (f .slots b (rw (ap (λ (x : Frame). x .slots) (f .fixed)) at l)))
+    (λ (l : b < length (w .hub .slots)). sound-control s (slotAt (w .hub) b) (f .slots b (rw (ap (λ (x : Frame). x .slots) (f .fixed)) at l)))
     (λ (none : slotAt (w .hub) b ≡ zeroSlot).
     let off : interruptControl b w ≡ 0 = ap (λ (slot : Slot). slot .peer .interrupt) none in
     omega arith)
@@ -157,11 +157,11 @@ module _ (s : Settings) (w : World) (f : Fit s w) (b : ℕ) (before : oneShot b 
 
   pub reset-ends : (n : ℕ) → refusal w (call b (reset n)) ≡ 0 → oneShot b (step w (call b (reset n)) .world) ≡ false
   unfolding effect resetSlot
-  reset-ends n r = restart-ends (reset n) r (announces-first _ b (slotAt (w .hub) b) (resetSlot 1) refl)
+  reset-ends n r = restart-ends (reset n) r (announces-first _ b (slotAt (w .hub) b) (resetSlot (w .hub .settings .vectors) 1) refl)
 
   pub disconnect-ends : (n : ℕ) → refusal w (call b (disconnect n)) ≡ 0 → oneShot b (step w (call b (disconnect n)) .world) ≡ false
   unfolding effect resetSlot
-  disconnect-ends n r = restart-ends (disconnect n) r (announces-first _ b (slotAt (w .hub) b) (resetSlot 0) refl)
+  disconnect-ends n r = restart-ends (disconnect n) r (announces-first _ b (slotAt (w .hub) b) (resetSlot (w .hub .settings .vectors) 0) refl)
 
 -- A whole stretch.
 

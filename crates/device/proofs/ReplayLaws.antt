@@ -78,9 +78,9 @@ tell-fit : (s : Settings) (b : ℕ) (w : World) (x : Item) → accepted s ≡ tr
 unfolding tell runAll run
 tell-fit s b w (Item.own a) h f = step-fit s w (call b a) h f
 tell-fit s b w (Item.bell v) h f =
-    record { fixed = runAll-frame b w (Operation.ringOne (peerId b) v ∷ []) ∙ f .fixed; slots = ring-keeps (Sound s) (delivery-sound s) maxPeers (w .hub) (peerId b) v (f .slots) }
+    record { fixed = runAll-frame b w (Operation.ringOne (peerId b) v ∷ []) ∙ f .fixed; slots = ring-keeps (Sound s) (λ i. delivery-sound s) (s .peers) (w .hub) (peerId b) v (f .slots) }
 tell-fit s b w (Item.word who x) h f =
-    record { fixed = runAll-frame b w (Operation.write (4 * who) (bytes 4 x) ∷ Operation.ringOne (peerId b) (vector 0) ∷ []) ∙ f .fixed; slots = ring-keeps (Sound s) (delivery-sound s) maxPeers (w .hub) (peerId b) (vector 0) (f .slots) }
+    record { fixed = runAll-frame b w (Operation.write (4 * who) (bytes 4 x) ∷ Operation.ringOne (peerId b) (vector 0) ∷ []) ∙ f .fixed; slots = ring-keeps (Sound s) (λ i. delivery-sound s) (s .peers) (w .hub) (peerId b) (vector 0) (f .slots) }
 tell-fit s b w (Item.bytes at bs) h f = record { fixed = runAll-frame b w (Operation.write at bs ∷ []) ∙ f .fixed; slots = f .slots }
 
 pub replay-fit : (s : Settings) (b : ℕ) (w : World) (xs : List Item) → accepted s ≡ true → Fit s w → Fit s (replay b w xs .world)

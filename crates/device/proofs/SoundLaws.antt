@@ -22,88 +22,69 @@ use Rattle.device.specs.Configuration.{masks, maskIn, maskAt, maskOf}
 use Rattle.device.specs.Msix.{addressMask, controlMask, inTable, vectorAt, wordAt, withWord, msixWritten}
 use Rattle.device.specs.Reset.{resetPeer, resetEntry}
 use Rattle.device.specs.Ring.{withInterrupt, afterDelivery}
-use Rattle.device.specs.Sizes.{maxVectors}
-use Rattle.device.specs.Sound.{peerFixed, peerReset, entryFixed, entryReset, inUse, vectorsInUse, peerSound, entrySound, slotSound}
+use Rattle.device.specs.Sound.{peerFixed, peerReset, entryFixed, entryReset, peerSound, entrySound, slotSound}
 use Rattle.device.specs.World.{Slot, zeroEntry, resetSlot, entryAt, withPeer, withEntry}
 use Rattle.device.proofs.FixedLaws.{Fixed, fixed-facts, facts-fixed}
 
--- all entries of a slot, the first n in use
-abbrev entriesSound : ℕ → Slot → Bool
-entriesSound n slot = below maxVectors (λ v. entrySound n v (entryAt slot v))
-
--- A slot in use: its registers and its entries.
+-- A connected slot: its registers and its entries.
 
 pub record Used (s : Settings) (slot : Slot) : Type 0 where
   pub fixed : Fixed s (slot .peer)
-  pub entries : (v : ℕ) → v < maxVectors → entrySound (s .vectors) v (entryAt slot v) ≡ true
+  pub entries : (v : ℕ) → v < s .vectors → entryFixed (entryAt slot v) ≡ true
 
-in-use : (s : Settings) (i : ℕ) (p : Peer) → i < s .peers → p .connected ≡ 1 → inUse s i p ≡ true
-unfolding inUse
-in-use s i p h c = ap₂ (λ (a b : Bool). a && b) (lt-ltb i (s .peers) h) (eq-eqb (p .connected) 1 c)
+abbrev entriesFixed : Settings → Slot → Bool
+entriesFixed s slot = below (s .vectors) (λ v. entryFixed (entryAt slot v))
 
--- soundness of a slot in use is soundness of these
-used-test : (s : Settings) (i : ℕ) (slot : Slot) → inUse s i (slot .peer) ≡ true
-    → slotSound s i slot ≡ (peerFixed s (slot .peer) && entriesSound (s .vectors) slot)
-unfolding slotSound peerSound vectorsInUse
-used-test s i slot e = rw e
+-- soundness of a connected slot is soundness of these
+used-test : (s : Settings) (slot : Slot) → slot .peer .connected ≡ 1 → slotSound s slot ≡ (peerFixed s (slot .peer) && entriesFixed s slot)
+unfolding slotSound peerSound entrySound
+used-test s slot c = rw (eq-eqb (slot .peer .connected) 1 c)
 
-pub used : (s : Settings) (i : ℕ) (slot : Slot) → i < s .peers → slot .peer .connected ≡ 1 → slotSound s i slot ≡ true → Used s slot
-used s i slot h c e =
-    let both = sym (used-test s i slot (in-use s i (slot .peer) h c)) ∙ e in
+pub used : (s : Settings) (slot : Slot) → slot .peer .connected ≡ 1 → slotSound s slot ≡ true → Used s slot
+used s slot c e =
+    let both = sym (used-test s slot c) ∙ e in
     record {
-      fixed = fixed-facts s (slot .peer) (and-left (peerFixed s (slot .peer)) (entriesSound (s .vectors) slot) both);
-      entries =
-          below-true maxVectors (λ v. entrySound (s .vectors) v (entryAt slot v))
-          (and-right (peerFixed s (slot .peer)) (entriesSound (s .vectors) slot) both);
+      fixed = fixed-facts s (slot .peer) (and-left (peerFixed s (slot .peer)) (entriesFixed s slot) both);
+      entries = below-true (s .vectors) (λ v. entryFixed (entryAt slot v)) (and-right (peerFixed s (slot .peer)) (entriesFixed s slot) both);
     }
 
-pub used-sound : (s : Settings) (i : ℕ) (slot : Slot) → i < s .peers → slot .peer .connected ≡ 1 → Used s slot → slotSound s i slot ≡ true
-used-sound s i slot h c u =
-    used-test s i slot (in-use s i (slot .peer) h c)
-    ∙ ap₂ (λ (a b : Bool). a && b) (facts-fixed s (slot .peer) (u .fixed)) (true-below maxVectors _ (u .entries))
+pub used-sound : (s : Settings) (slot : Slot) → slot .peer .connected ≡ 1 → Used s slot → slotSound s slot ≡ true
+used-sound s slot c u =
+    used-test s slot c
+    ∙ ap₂ (λ (a b : Bool). a && b) (facts-fixed s (slot .peer) (u .fixed)) (true-below (s .vectors) _ (u .entries))
 
 -- A slot that is not connected holds reset values.
-pub absent-reset : (s : Settings) (i : ℕ) (slot : Slot) → slotSound s i slot ≡ true → eqb (slot .peer .connected) 1 ≡ false → peerReset (slot .peer) ≡ true
-unfolding slotSound peerSound inUse
-absent-reset s i slot e d =
-    rw (and-false (ltb i (s .peers)) (eqb (slot .peer .connected) 1) d) at
-    (and-left (peerSound s i (slot .peer)) (entriesSound (vectorsInUse s i (slot .peer)) slot) e)
+pub absent-reset : (s : Settings) (slot : Slot) → slotSound s slot ≡ true → eqb (slot .peer .connected) 1 ≡ false → peerReset (slot .peer) ≡ true
+unfolding slotSound peerSound
+absent-reset s slot e d = rw d at (and-left (peerSound s (slot .peer)) _ e)
 
 -- Reset values are sound, connected or not.
 
-reset-entry : (n v : ℕ) → entrySound n v resetEntry ≡ true
-unfolding entrySound entryFixed entryReset every
-reset-entry n v = go (ltb v n)
+reset-sound : (s : Settings) (c : ℕ) → cond (eqb c 1) true (eqb c 0) ≡ true → slotSound s (resetSlot (s .vectors) c) ≡ true
+unfolding slotSound resetSlot peerSound entrySound peerFixed peerReset entryFixed entryReset every masks maskIn maskAt maskOf
+reset-sound s c e =
+    ap₂ (λ (a b : Bool). a && b) (registers (eqb c 1) e)
+    (true-below (s .vectors) _ (λ v h. rw (getD-replicate (s .vectors) v resetEntry zeroEntry h) (entry (eqb c 1))))
   where
-    go : (t : Bool) → cond t (entryFixed resetEntry) (entryReset resetEntry) ≡ true
-    go true = refl
-    go false = refl
+    registers : (t : Bool) → cond t true (eqb c 0) ≡ true → cond t (peerFixed s (resetPeer c)) (peerReset (resetPeer c)) ≡ true
+    registers true f = refl
+    registers false f = rw f
 
-reset-sound : (s : Settings) (i c : ℕ) → cond (inUse s i (resetPeer c)) true (eqb c 0) ≡ true → slotSound s i (resetSlot c) ≡ true
-unfolding slotSound resetSlot peerSound peerFixed peerReset every masks maskIn maskAt maskOf
-reset-sound s i c e =
-    ap₂ (λ (a b : Bool). a && b) (go (inUse s i (resetPeer c)) e)
-    (true-below maxVectors _ (λ v h. rw (getD-replicate maxVectors v resetEntry zeroEntry h) (reset-entry (vectorsInUse s i (resetPeer c)) v)))
-  where
-    go : (t : Bool) → cond t true (eqb c 0) ≡ true → cond t (peerFixed s (resetPeer c)) (peerReset (resetPeer c)) ≡ true
-    go true f = refl
-    go false f = rw f
+    entry : (t : Bool) → cond t (entryFixed resetEntry) (entryReset resetEntry) ≡ true
+    entry true = refl
+    entry false = refl
 
-pub absent-sound : (s : Settings) (i : ℕ) → slotSound s i (resetSlot 0) ≡ true
-absent-sound s i = reset-sound s i 0 (go (inUse s i (resetPeer 0)))
-  where
-    go : (t : Bool) → cond t true true ≡ true
-    go true = refl
-    go false = refl
+pub absent-sound : (s : Settings) → slotSound s (resetSlot (s .vectors) 0) ≡ true
+absent-sound s = reset-sound s 0 refl
 
-pub present-sound : (s : Settings) (i : ℕ) → i < s .peers → slotSound s i (resetSlot 1) ≡ true
-present-sound s i h = reset-sound s i 1 (rw (in-use s i (resetPeer 1) h refl))
+pub present-sound : (s : Settings) → slotSound s (resetSlot (s .vectors) 1) ≡ true
+present-sound s = reset-sound s 1 refl
 
 -- A delivery.
 
-quiet-peer : (s : Settings) (i : ℕ) (p : Peer) → peerSound s i p ≡ true → peerSound s i (withInterrupt p 0) ≡ true
-unfolding peerSound inUse peerReset
-quiet-peer s i p e = go (inUse s i p) e
+quiet-peer : (s : Settings) (p : Peer) → peerSound s p ≡ true → peerSound s (withInterrupt p 0) ≡ true
+unfolding peerSound peerReset
+quiet-peer s p e = go (eqb (p .connected) 1) e
   where
     go : (t : Bool) → cond t (peerFixed s p) (peerReset p) ≡ true → cond t (peerFixed s (withInterrupt p 0)) (peerReset (withInterrupt p 0)) ≡ true
     go true f =
@@ -112,22 +93,18 @@ quiet-peer s i p e = go (inUse s i p) e
         (record { command = old .command; bar0 = old .bar0; bar1 = old .bar1; privileged = old .privileged; message = old .message; interrupt = refl })
     go false f = subst (λ (n : ℕ). peerReset (withInterrupt p n) ≡ true) (eqb-true (p .interrupt) 0 (every-true _ f 6)) f
 
-pub delivery-sound : (s : Settings) (i : ℕ) (g : Gate) (slot : Slot) → slotSound s i slot ≡ true → slotSound s i (afterDelivery g slot) ≡ true
-unfolding afterDelivery slotSound vectorsInUse inUse
-delivery-sound s i g slot e = go (g .oneshot)
+pub delivery-sound : (s : Settings) (g : Gate) (slot : Slot) → slotSound s slot ≡ true → slotSound s (afterDelivery g slot) ≡ true
+unfolding afterDelivery slotSound entrySound
+delivery-sound s g slot e = go (g .oneshot)
   where
-    rest : Bool
-    rest = entriesSound (vectorsInUse s i (slot .peer)) slot
-
-    go : (t : Bool) → slotSound s i (cond t (withPeer slot (withInterrupt (slot .peer) 0)) slot) ≡ true
-    go true = ap₂ (λ (a b : Bool). a && b) (quiet-peer s i (slot .peer) (and-left (peerSound s i (slot .peer)) rest e)) (and-right (peerSound s i (slot .peer)) rest e)
+    go : (t : Bool) → slotSound s (cond t (withPeer slot (withInterrupt (slot .peer) 0)) slot) ≡ true
+    go true = ap₂ (λ (a b : Bool). a && b) (quiet-peer s (slot .peer) (and-left (peerSound s (slot .peer)) _ e)) (and-right (peerSound s (slot .peer)) _ e)
     go false = e
 
 -- A peer's own stores.
 
-pub peer-sound : (s : Settings) (i : ℕ) (slot : Slot) (p : Peer) → i < s .peers → p .connected ≡ 1 → Used s slot → Fixed s p
-    → slotSound s i (withPeer slot p) ≡ true
-peer-sound s i slot p h c u f = used-sound s i (withPeer slot p) h c (record { fixed = f; entries = u .entries })
+pub peer-sound : (s : Settings) (slot : Slot) (p : Peer) → p .connected ≡ 1 → Used s slot → Fixed s p → slotSound s (withPeer slot p) ≡ true
+peer-sound s slot p c u f = used-sound s (withPeer slot p) c (record { fixed = f; entries = u .entries })
 
 masked : (m x y : ℕ) (t : Bool) → only m y ≡ true → only m (cond t (bitAnd x m) y) ≡ true
 masked m x y true e = only-and m x
@@ -141,15 +118,9 @@ word-fixed e k x f =
       masked controlMask x (e .control) (eqb k 3) (every-true (only addressMask (e .low) ∷ only controlMask (e .control) ∷ []) f 1),
     )
 
--- an entry in use, and that it is sound
-entry-used : (n v : ℕ) (e : Entry) → v < n → entrySound n v e ≡ entryFixed e
-unfolding entrySound
-entry-used n v e h = rw (lt-ltb v n h)
-
-pub msix-sound : (s : Settings) (i : ℕ) (slot : Slot) (at x : ℕ) → i < s .peers → slot .peer .connected ≡ 1 → Used s slot
-    → slotSound s i (msixWritten s slot at x) ≡ true
+pub msix-sound : (s : Settings) (slot : Slot) (at x : ℕ) → slot .peer .connected ≡ 1 → Used s slot → slotSound s (msixWritten s slot at x) ≡ true
 unfolding msixWritten inTable
-msix-sound s i slot at x h c u = go (inTable s at) refl
+msix-sound s slot at x c u = go (inTable s at) refl
   where
     v : ℕ
     v = vectorAt at
@@ -157,14 +128,11 @@ msix-sound s i slot at x h c u = go (inTable s at) refl
     new : Entry
     new = withWord (entryAt slot v) (wordAt at) x
 
-    put : v < s .vectors → (j : ℕ) → j < maxVectors → entrySound (s .vectors) j (entryAt (withEntry slot v new) j) ≡ true
+    put : v < s .vectors → (j : ℕ) → j < s .vectors → entryFixed (entryAt (withEntry slot v new) j) ≡ true
     put hv j hj =
-        getD-set (λ (e : Entry). entrySound (s .vectors) j e ≡ true) (slot .entries) v j new zeroEntry
-        (λ (q : j ≡ v).
-        let old : entryFixed (entryAt slot v) ≡ true = sym (entry-used (s .vectors) v (entryAt slot v) hv) ∙ u .entries v (omega arith) in
-        rw q (entry-used (s .vectors) v new hv ∙ word-fixed (entryAt slot v) (wordAt at) x old))
-        (u .entries j hj)
+        getD-set (λ (e : Entry). entryFixed e ≡ true) (slot .entries) v j new zeroEntry
+        (λ (q : j ≡ v). word-fixed (entryAt slot v) (wordAt at) x (u .entries v hv)) (u .entries j hj)
 
-    go : (t : Bool) → inTable s at ≡ t → slotSound s i (cond t (withEntry slot v new) slot) ≡ true
-    go true e = used-sound s i (withEntry slot v new) h c (record { fixed = u .fixed; entries = put (ltb-true v (s .vectors) e) })
-    go false e = used-sound s i slot h c u
+    go : (t : Bool) → inTable s at ≡ t → slotSound s (cond t (withEntry slot v new) slot) ≡ true
+    go true e = used-sound s (withEntry slot v new) c (record { fixed = u .fixed; entries = put (ltb-true v (s .vectors) e) })
+    go false e = used-sound s slot c u

@@ -29,10 +29,10 @@ use Rattle.device.specs.Ring.{withInterrupt, afterDelivery}
 use Rattle.device.specs.Sections.{Section, outputs, sections, holds, sectionIn, sectionOf, mayStore}
 use Rattle.device.specs.SetUp.{accepted, total, freshHub}
 use Rattle.device.specs.Sizes.{maxPeers}
-use Rattle.device.specs.Sound.{peerReset}
+use Rattle.device.specs.Sound.{peerReset, slotSound}
 use Rattle.device.specs.Step.{run, runAll, effectIn, step}
 use Rattle.device.specs.World.{Slot, World, zeroSlot, resetSlot, slotAt, withPeer}
-use Rattle.device.proofs.HistoryLaws.{Sound, Fit, taken, taken-world, refused-world, same, small, taken-small, slots-keep, start-fit, step-fit}
+use Rattle.device.proofs.HistoryLaws.{Sound, Fit, taken, taken-world, refused-world, same, small, slots-keep, start-fit, step-fit}
 use Rattle.device.proofs.KeepingLaws.{Frame, Every, Leaves}
 use Rattle.device.proofs.SetUpLaws.{Accepted, accepted-facts}
 use Rattle.device.proofs.SoundLaws.{absent-reset}
@@ -107,9 +107,9 @@ unfolding configurationWritten writtenByte withByte
 written-state s p at zero x = refl
 written-state s p at (suc w) x = written-state s (writtenByte s p at (x % 256)) (suc at) w (x / 256)
 
-absent-state : (s : Settings) (i : ℕ) (slot : Slot) → Sound s i slot → eqb (slot .peer .connected) 1 ≡ false → slot .peer .state ≡ 0
+absent-state : (s : Settings) (slot : Slot) → slotSound s slot ≡ true → eqb (slot .peer .connected) 1 ≡ false → slot .peer .state ≡ 0
 unfolding peerReset
-absent-state s i slot e d = eqb-true (slot .peer .state) 0 (every-true _ (absent-reset s i slot e d) 7)
+absent-state s slot e d = eqb-true (slot .peer .state) 0 (every-true _ (absent-reset s slot e d) 7)
 
 -- what the operations of one call leave: every other word as it was, and the caller's own word right
 record Words (s : Settings) (who : ℕ) (slot : Slot) (region : List ℕ) (os : List Operation) : Type 0 where
@@ -141,9 +141,9 @@ module _ (s : Settings) (who : ℕ) (slot : Slot) (region : List ℕ) (a : Accep
   effect-words : (c : Act) → present (eqb (slot .peer .connected) 1) (accessOf c) ≡ false → forbidden s who (accessOf c) ≡ false → Sound s who slot
       → Worded s region who slot → Words s who slot region (effect s who slot region c .operations)
   unfolding effect present forbidden accessOf resetSlot msixWritten
-  effect-words connect p f e h = record { others = λ i j d l k. refl; own = λ l j k. h l j k ∙ ap (λ (n : ℕ). byte j n) (absent-state s who slot e p) }
-  effect-words (disconnect n) p f e h = announced (resetSlot 0)
-  effect-words (reset n) p f e h = announced (resetSlot 1)
+  effect-words connect p f e h = record { others = λ i j d l k. refl; own = λ l j k. h l j k ∙ ap (λ (n : ℕ). byte j n) (absent-state s slot e p) }
+  effect-words (disconnect n) p f e h = announced (resetSlot (s .vectors) 0)
+  effect-words (reset n) p f e h = announced (resetSlot (s .vectors) 1)
   effect-words (configurationRead at w) p f e h = record { others = λ i j d l k. refl; own = h }
   effect-words (configurationWrite at w x) p f e h =
       record { others = λ i j d l k. refl; own = λ l j k. h l j k ∙ ap (λ (n : ℕ). byte j n) (sym (written-state s (slot .peer) at w x)) }
@@ -174,7 +174,7 @@ module _ (s : Settings) (who : ℕ) (slot : Slot) (region : List ℕ) (a : Accep
 -- Every world of a history.
 
 abbrev pub Written : Settings → World → Type 0
-Written s w = Every (Worded s (w .region)) maxPeers (w .hub)
+Written s w = Every (Worded s (w .region)) (s .peers) (w .hub)
 
 delivery-worded : (s : Settings) (region : List ℕ) (i : ℕ) (g : Gate) (slot : Slot) → Worded s region i slot → Worded s region i (afterDelivery g slot)
 unfolding afterDelivery
@@ -190,14 +190,14 @@ module _ (s : Settings) (a : accepted s ≡ true) where
   taken-written w c f h e =
       let slot : Slot = slotAt (w .hub) (c .who) in
       let os : List Operation = effectIn w c .operations in
-      let near : c .who < maxPeers = taken-small s w c a f e in
+      let near : c .who < s .peers = small s w c a f e in
       let permitted : forbidden s (c .who) (accessOf (c .act)) ≡ false = rw (same s w c a f) at (taken w c e .permitted) in
       let words : Words s (c .who) slot (w .region) os =
       subst (λ (x : Settings). Words s (c .who) slot (w .region) (effect x (c .who) slot (w .region) (c .act) .operations)) (sym (same s w c a f))
       (effect-words s (c .who) slot (w .region) (accepted-facts s a) (ap (λ (x : Frame). x .room) (f .fixed)) (small s w c a f e) (c .act) (taken w c e .absent) permitted
       (f .slots (c .who) near) (h (c .who) near)) in
       let region : step w c .world .region ≡ written (w .region) os = ap (λ (x : World). x .region) (taken-world w c e) ∙ run-region (c .who) w os in
-      subst (λ (r : List ℕ). Every (Worded s r) maxPeers (step w c .world .hub)) (sym region)
+      subst (λ (r : List ℕ). Every (Worded s r) (s .peers) (step w c .world .hub)) (sym region)
       (slots-keep s w c a f (Worded s (written (w .region) os)) (delivery-worded s (written (w .region) os)) e
       (λ i l d k j m. words .others i j d k m ∙ h i l k j m) (words .own))
 
@@ -207,7 +207,7 @@ module _ (s : Settings) (a : accepted s ≡ true) where
   start-written : Written s (start s)
   unfolding start freshHub resetSlot total
   start-written i l k j m =
-      rw (getD-replicate maxPeers i (resetSlot 0) zeroSlot l)
+      rw (getD-replicate (s .peers) i (resetSlot (s .vectors) 0) zeroSlot l)
       (getD-replicate {A = ℕ} (total s) (4 * i + j) 0 0 (omega (arith, accepted-facts s a .state)) ∙ sym (ap (λ (q : ℕ). q % 256) (zero-div (2 ^ (8 * j)))))
 
   after-written : (w : World) (cs : List Call) → Fit s w → Written s w → Written s (after w cs)

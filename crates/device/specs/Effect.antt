@@ -85,9 +85,9 @@ registerStored who slot Register.state value =
 registerStored who slot Register.none value = []
 
 unfoldable pub effect : Settings → ℕ → Slot → List ℕ → Act → Effect
-effect s who slot region connect = does (Operation.own (resetSlot 1) ∷ [])
-effect s who slot region (disconnect n) = does (announces who (resetSlot 0))
-effect s who slot region (reset n) = does (announces who (resetSlot 1))
+effect s who slot region connect = does (Operation.own (resetSlot (s .vectors) 1) ∷ [])
+effect s who slot region (disconnect n) = does (announces who (resetSlot (s .vectors) 0))
+effect s who slot region (reset n) = does (announces who (resetSlot (s .vectors) 1))
 effect s who slot region (configurationRead at w) = reads (Configuration.configurationRead s (slot .peer) at w)
 effect s who slot region (configurationWrite at w x) =
     does (Operation.own (withPeer slot (Configuration.configurationWritten s (slot .peer) at w x)) ∷ [])

@@ -40,15 +40,15 @@ accepted s =
     ∷ sixteenBits (s .subsystem)
     ∷ [])
 
--- The refusals of a set-up. A set-up is handed no hub but the memory for one; that it is not of a hub's length is refused with
--- 10 too, since nothing can be set up there.
+-- The refusals of a set-up. A set-up is handed no hub but the memory for one, as large as its numbers ask for. Numbers that are
+-- not accepted ask for none, so they are refused first; then memory of another size, with 10, since no sound hub can stand there.
 unfoldable pub setUpRefusal : Bool → Settings → List ℕ → ℕ
 setUpRefusal roomy s region =
-    first (row 10 (not roomy) ∷ row 1 (not (accepted s)) ∷ row 2 (not (eqb (length region) (total s))) ∷ [])
+    first (row 1 (not (accepted s)) ∷ row 10 (not roomy) ∷ row 2 (not (eqb (length region) (total s))) ∷ [])
 
 -- nobody connected, everything at reset
 unfoldable pub freshHub : Settings → Hub
-freshHub s = record { settings = s; slots = replicate maxPeers (resetSlot 0) }
+freshHub s = record { settings = s; slots = replicate (s .peers) (resetSlot (s .vectors) 0) }
 
 -- 'An accepted set-up makes the whole region zero with nobody connected', 'A refused set-up returns an all-zero hub'
 abbrev pub hubAfterSetUp : ℕ → Settings → Hub

@@ -3,7 +3,7 @@
 use Prim.Native.Nat.{ℕ}
 use mathlib.Core.Bool.{Bool, cond, _&&_}
 use mathlib.Core.List.{[], _∷_}
-use lib.Dec.{eqb, ltb}
+use lib.Dec.{eqb}
 use Rattle.common.specs.Bytes.{only}
 use Rattle.common.specs.Tests.{every, below}
 use Rattle.device.specs.declared.Entry.{Entry}
@@ -12,7 +12,6 @@ use Rattle.device.specs.declared.Settings.{Settings}
 use Rattle.device.specs.Configuration.{maskOf}
 use Rattle.device.specs.Msix.{addressMask, controlMask}
 use Rattle.device.specs.SetUp.{accepted}
-use Rattle.device.specs.Sizes.{maxPeers, maxVectors}
 use Rattle.device.specs.World.{Hub, Slot, slotAt, entryAt}
 
 -- every fixed bit of a connected peer's registers is 0: no bit is set but those that a write can set
@@ -46,24 +45,16 @@ entryFixed e = every (only addressMask (e .low) ∷ only controlMask (e .control
 unfoldable pub entryReset : Entry → Bool
 entryReset e = every (eqb (e .low) 0 ∷ eqb (e .high) 0 ∷ eqb (e .payload) 0 ∷ eqb (e .control) 1 ∷ [])
 
--- a peer of the hub that is connected
-unfoldable pub inUse : Settings → ℕ → Peer → Bool
-inUse s i p = ltb i (s .peers) && eqb (p .connected) 1
+-- 'unconnected .. slots .. hold reset values': the registers and the entries of a peer that is not connected
+unfoldable pub peerSound : Settings → Peer → Bool
+peerSound s p = cond (eqb (p .connected) 1) (peerFixed s p) (peerReset p)
 
--- how many of a slot's vectors are in use
-unfoldable pub vectorsInUse : Settings → ℕ → Peer → ℕ
-vectorsInUse s i p = cond (inUse s i p) (s .vectors) 0
+unfoldable pub entrySound : Peer → Entry → Bool
+entrySound p e = cond (eqb (p .connected) 1) (entryFixed e) (entryReset e)
 
-unfoldable pub peerSound : Settings → ℕ → Peer → Bool
-peerSound s i p = cond (inUse s i p) (peerFixed s p) (peerReset p)
+unfoldable pub slotSound : Settings → Slot → Bool
+slotSound s slot = peerSound s (slot .peer) && below (s .vectors) (λ v. entrySound (slot .peer) (entryAt slot v))
 
-unfoldable pub entrySound : ℕ → ℕ → Entry → Bool
-entrySound used v e = cond (ltb v used) (entryFixed e) (entryReset e)
-
-unfoldable pub slotSound : Settings → ℕ → Slot → Bool
-slotSound s i slot =
-    peerSound s i (slot .peer)
-    && below maxVectors (λ v. entrySound (vectorsInUse s i (slot .peer)) v (entryAt slot v))
-
+-- every slot of every peer; there are no unused ones
 unfoldable pub sound : Hub → Bool
-sound hub = accepted (hub .settings) && below maxPeers (λ i. slotSound (hub .settings) i (slotAt hub i))
+sound hub = accepted (hub .settings) && below (hub .settings .peers) (λ i. slotSound (hub .settings) (slotAt hub i))

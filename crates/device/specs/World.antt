@@ -1,19 +1,18 @@
 -- What the device's calls read and change: the hub, and the shared region's bytes.
 use Prim.Native.Nat.{ℕ}
-use mathlib.Core.List.{List}
+use mathlib.Core.List.{List, []}
 use lib.ListN.{getD, set, replicate}
 use Rattle.device.specs.declared.Entry.{Entry}
 use Rattle.device.specs.declared.Peer.{Peer}
 use Rattle.device.specs.declared.Settings.{Settings}
 use Rattle.device.specs.Reset.{resetPeer, resetEntry}
-use Rattle.device.specs.Sizes.{maxPeers, maxVectors}
 
 -- all that is kept of one peer: its registers and its MSI-X entries
 pub record Slot : Type 0 where
   pub peer : Peer
   pub entries : List Entry
 
--- a hub has a slot for each of maxPeers ids, used or not, and each slot an entry for each of maxVectors vectors
+-- a hub has a slot for each of its peers, connected or not, and each slot an entry for each vector: no slot and no vector is unused
 pub record Hub : Type 0 where
   pub settings : Settings
   pub slots : List Slot
@@ -25,12 +24,12 @@ pub record World : Type 0 where
 abbrev pub world : Hub → List ℕ → World
 world hub region = record { hub = hub; region = region }
 
--- all numbers 0: what a list gives beyond its end, and what an all-zero hub is made of
+-- all numbers 0: what a list gives beyond its end
 abbrev pub zeroEntry : Entry
 zeroEntry = record { low = 0; high = 0; payload = 0; control = 0 }
 
 unfoldable pub zeroSlot : Slot
-zeroSlot = record { peer = resetPeer 0; entries = replicate maxVectors zeroEntry }
+zeroSlot = record { peer = resetPeer 0; entries = [] }
 
 abbrev pub zeroSettings : Settings
 zeroSettings =
@@ -46,13 +45,13 @@ zeroSettings =
       subsystem = 0;
     }
 
--- the all-zero hub, which a refused set-up leaves ('When the hub says no')
+-- the all-zero hub, which a refused set-up leaves ('When the hub says no'): N is 0, so it has no slot
 unfoldable pub zeroHub : Hub
-zeroHub = record { settings = zeroSettings; slots = replicate maxPeers zeroSlot }
+zeroHub = record { settings = zeroSettings; slots = [] }
 
--- a slot with all registers and entries at reset
-unfoldable pub resetSlot : ℕ → Slot
-resetSlot connected = record { peer = resetPeer connected; entries = replicate maxVectors resetEntry }
+-- a slot of so many vectors with all registers and entries at reset
+unfoldable pub resetSlot : (vectors connected : ℕ) → Slot
+resetSlot vectors connected = record { peer = resetPeer connected; entries = replicate vectors resetEntry }
 
 -- the slot of an id, and the entry of a vector
 abbrev pub slotAt : Hub → ℕ → Slot

@@ -1,4 +1,5 @@
 pub mod IndexLaws
 pub mod PartLaws
 pub mod LayoutLaws
+pub mod RunLaws
 pub mod SlotLaws

@@ -9,9 +9,8 @@ use Rattle.device.specs.declared.Entry.{Entry}
 use Rattle.device.specs.declared.Settings.{Settings}
 use Rattle.device.specs.Reset.{resetPeer, resetEntry}
 use Rattle.device.specs.SetUp.{freshHub}
-use Rattle.device.specs.Sizes.{maxPeers, maxVectors}
 use Rattle.device.specs.World.{Hub, Slot, zeroSlot, resetSlot, slotAt, withSlot, withPeer, withEntry}
-use Rattle.words.specs.Layout.{hubOf}
+use Rattle.words.specs.Layout.{hubOf, Known}
 use Rattle.words.proofs.LayoutLaws.{slots-length, entries-length}
 
 -- a slot with its first v entries at reset, and a hub with its first i slots at reset
@@ -19,16 +18,17 @@ abbrev pub cleared : Slot → ℕ → Slot
 cleared slot v = record { peer = slot .peer; entries = replicate v resetEntry ++ drop v (slot .entries) }
 
 abbrev pub emptied : Hub → ℕ → Hub
-emptied hub i = record { settings = hub .settings; slots = replicate i (resetSlot 0) ++ drop i (hub .slots) }
+emptied hub i =
+    record { settings = hub .settings; slots = replicate i (resetSlot (hub .settings .vectors) 0) ++ drop i (hub .slots) }
 
 pub slot-kept : (h : Hub) (i : ℕ) → h ≡ withSlot h i (slotAt h i)
 slot-kept h i = λ t. record { settings = h .settings; slots = sym (set-getD (h .slots) i zeroSlot) t }
 
-pub slot-back : (ws : List ℕ) (i : ℕ) (s : Slot) → i < maxPeers → slotAt (withSlot (hubOf ws) i s) i ≡ s
+pub slot-back : (ws : List ℕ) (i : ℕ) (s : Slot) → Known ws i → slotAt (withSlot (hubOf ws) i s) i ≡ s
 slot-back ws i s l = getD-set-same (hubOf ws .slots) i s zeroSlot (rw slots-length l)
 
 -- a slot changed twice
-slot-twice : (ws : List ℕ) (i : ℕ) (s : Slot) (f : Slot → Slot) → i < maxPeers
+slot-twice : (ws : List ℕ) (i : ℕ) (s : Slot) (f : Slot → Slot) → Known ws i
     → withSlot (withSlot (hubOf ws) i s) i (f (slotAt (withSlot (hubOf ws) i s) i)) ≡ withSlot (hubOf ws) i (f s)
 slot-twice ws i s f l =
     let slots : List Slot = hubOf ws .slots in
@@ -37,8 +37,8 @@ slot-twice ws i s f l =
       slots = (set-set slots i s (f (slotAt (withSlot (hubOf ws) i s) i)) ∙ ap (λ (x : Slot). set slots i (f x)) (slot-back ws i s l)) t;
     }
 
-module _ (ws : List ℕ) (now after : Hub) (i : ℕ) (below : i < maxPeers) where
-  pub cleared-more : (v : ℕ) → v < maxVectors → now ≡ withSlot (hubOf ws) i (cleared (slotAt (hubOf ws) i) v)
+module _ (ws : List ℕ) (now after : Hub) (i : ℕ) (below : Known ws i) where
+  pub cleared-more : (v : ℕ) → v < hubOf ws .settings .vectors → now ≡ withSlot (hubOf ws) i (cleared (slotAt (hubOf ws) i) v)
       → after ≡ withSlot now i (withEntry (slotAt now i) v resetEntry)
       → after ≡ withSlot (hubOf ws) i (cleared (slotAt (hubOf ws) i) (v + 1))
   cleared-more v l was step =
@@ -49,28 +49,29 @@ module _ (ws : List ℕ) (now after : Hub) (i : ℕ) (below : i < maxPeers) wher
       (filled-more v resetEntry (slotAt (hubOf ws) i .entries) (rw (entries-length ws i below) l))
 
   pub cleared-all : (connected : ℕ) → now ≡ withSlot (hubOf ws) i (withPeer (slotAt (hubOf ws) i) (resetPeer connected))
-      → after ≡ withSlot now i (cleared (slotAt now i) maxVectors) → after ≡ withSlot (hubOf ws) i (resetSlot connected)
+      → after ≡ withSlot now i (cleared (slotAt now i) (hubOf ws .settings .vectors))
+      → after ≡ withSlot (hubOf ws) i (resetSlot (hubOf ws .settings .vectors) connected)
   unfolding resetSlot
   cleared-all connected was step =
+      let m : ℕ = hubOf ws .settings .vectors in
       step
-      ∙ ap (λ (h : Hub). withSlot h i (cleared (slotAt h i) maxVectors)) was
-      ∙ slot-twice ws i (withPeer (slotAt (hubOf ws) i) (resetPeer connected)) (λ s. cleared s maxVectors) below
+      ∙ ap (λ (h : Hub). withSlot h i (cleared (slotAt h i) m)) was
+      ∙ slot-twice ws i (withPeer (slotAt (hubOf ws) i) (resetPeer connected)) (λ s. cleared s m) below
       ∙ ap (λ (es : List Entry). withSlot (hubOf ws) i (record { peer = resetPeer connected; entries = es }))
-      (filled-all maxVectors resetEntry (slotAt (hubOf ws) i .entries) (entries-length ws i below))
+      (filled-all m resetEntry (slotAt (hubOf ws) i .entries) (entries-length ws i below))
 
-  pub emptied-more : now ≡ emptied (hubOf ws) i → after ≡ withSlot now i (resetSlot 0) → after ≡ emptied (hubOf ws) (i + 1)
+  pub emptied-more : now ≡ emptied (hubOf ws) i → after ≡ withSlot now i (resetSlot (now .settings .vectors) 0) → after ≡ emptied (hubOf ws) (i + 1)
   emptied-more was step =
+      let slot : Slot = resetSlot (hubOf ws .settings .vectors) 0 in
       step
-      ∙ ap (λ (h : Hub). withSlot h i (resetSlot 0)) was
+      ∙ ap (λ (h : Hub). withSlot h i (resetSlot (h .settings .vectors) 0)) was
       ∙ ap (λ (slots : List Slot). record { settings = hubOf ws .settings; slots = slots })
-      (filled-more i (resetSlot 0) (hubOf ws .slots) (rw slots-length below))
+      (filled-more i slot (hubOf ws .slots) (rw slots-length below))
 
-pub emptied-all :
-    (ws : List ℕ) (after : Hub) (s : Settings)
-    → hubOf ws .settings ≡ s
-    → after ≡ emptied (hubOf ws) maxPeers
-    → after ≡ freshHub s
+pub emptied-all : (ws : List ℕ) (after : Hub) (s : Settings) → hubOf ws .settings ≡ s → after ≡ emptied (hubOf ws) (s .peers) → after ≡ freshHub s
 unfolding freshHub
 emptied-all ws after s was step =
     step
-    ∙ (λ t. record { settings = was t; slots = filled-all maxPeers (resetSlot 0) (hubOf ws .slots) (slots-length ws) t })
+    ∙ ap (λ (slots : List Slot). record { settings = hubOf ws .settings; slots = slots })
+    (filled-all (s .peers) (resetSlot (hubOf ws .settings .vectors) 0) (hubOf ws .slots) (slots-length ws ∙ ap (λ (x : Settings). x .peers) was))
+    ∙ ap (λ (x : Settings). record { settings = x; slots = replicate (s .peers) (resetSlot (x .vectors) 0) }) was

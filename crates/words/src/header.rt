@@ -1,9 +1,10 @@
 // The first ten words: the settings.
 use device::Settings;
+ghost use mathlib.Core.Bool.{true};
 ghost use mathlib.Core.Path.{_≡_};
 ghost use Prim.Native.Nat.{_+_, _*_, _^_, _<_, _≤_};
 ghost use lib.ListN.{length, getD};
-ghost use Rattle.words.specs.Layout.{hubWords, hubOf, settingsOf, withSettings, Storable};
+ghost use Rattle.words.specs.Layout.{hubWords, hubOf, fits, settingsOf, Storable};
 ghost use Rattle.words.specs.Parts.{settingsWords};
 
 fn widened(x: u32) -> u64
@@ -44,7 +45,7 @@ fn settings_from(hub: &[u32]) -> Settings
 }
 
 pub fn settings(hub: &[u32]) -> Settings
-    requires { ⌜ length (now hub) ≡ hubWords ⌝ }
+    requires { ⌜ fits (now hub) ≡ true ⌝ }
     ensures { λ r. ⌜ r ≡ hubOf (now (hub .entry)) .settings ⌝ }
 {
     settings_from(hub)
@@ -68,10 +69,11 @@ fn settings_words(s: Settings) -> [u32; 10]
     ]
 }
 
+// The words then are a hub of these settings, whatever stands in its slots.
 pub fn put_settings(hub: &mut [u32], s: Settings)
-    requires room { ⌜ length (now hub) ≡ hubWords ⌝ }
+    requires size { ⌜ length (now hub) ≡ hubWords (s .peers) (s .vectors) ⌝ }
     requires small { ⌜ Storable s ⌝ }
-    ensures { λ r. ⌜ hubOf (now (hub .exit)) ≡ withSettings (hubOf (now (hub .entry))) s ⌝ }
+    ensures { λ r. ⌜ (fits (now (hub .exit)) ≡ true) × (hubOf (now (hub .exit)) .settings ≡ s) ⌝ }
 {
     let values = settings_words(s);
     super::parts::put_words(hub, 0, 1, &values);

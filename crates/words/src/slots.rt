@@ -3,21 +3,18 @@ use device::Entry;
 use device::Peer;
 use device::Settings;
 ghost use mathlib.Core.Path.{_≡_};
-ghost use Prim.Native.Nat.{_<_};
 ghost use lib.ListN.{length, replicate};
 ghost use Rattle.device.specs.SetUp.{freshHub};
-ghost use Rattle.device.specs.Sizes.{maxPeers};
 ghost use Rattle.device.specs.World.{withSlot, resetSlot};
-ghost use Rattle.words.specs.Layout.{hubWords, hubOf, Storable};
+ghost use Rattle.words.specs.Layout.{hubWords, hubOf, Known, Storable};
 
 // A peer's registers and entries at their reset values, connected (1) or not (0).
 pub fn put_reset(hub: &mut [u32], i: usize, connected: u32)
-    requires room { ⌜ length (now hub) ≡ hubWords ⌝ }
-    requires known { ⌜ i < maxPeers ⌝ }
-    ensures { λ r. ⌜ hubOf (now (hub .exit)) ≡ withSlot (hubOf (now (hub .entry))) i (resetSlot connected) ⌝ }
+    requires { ⌜ Known (now hub) i ⌝ }
+    ensures { λ r. ⌜ hubOf (now (hub .exit)) ≡ withSlot (hubOf (now (hub .entry))) i (resetSlot (hubOf (now (hub .entry)) .settings .vectors) connected) ⌝ }
 {
     super::put_peer(hub, i, Peer::reset(connected));
-    let vectors = device::max_vectors();
+    let vectors = super::sizes::count(hub, 1);
     let mut v = 0;
     while v < vectors {
         super::put_entry(hub, i, v, Entry::reset());
@@ -27,12 +24,12 @@ pub fn put_reset(hub: &mut [u32], i: usize, connected: u32)
 
 // A hub with these settings and nobody connected.
 pub fn put_fresh(hub: &mut [u32], s: Settings)
-    requires room { ⌜ length (now hub) ≡ hubWords ⌝ }
+    requires size { ⌜ length (now hub) ≡ hubWords (s .peers) (s .vectors) ⌝ }
     requires small { ⌜ Storable s ⌝ }
     ensures { λ r. ⌜ hubOf (now (hub .exit)) ≡ freshHub s ⌝ }
 {
     super::put_settings(hub, s);
-    let peers = device::max_peers();
+    let peers = super::sizes::count(hub, 0);
     let mut i = 0;
     while i < peers {
         put_reset(hub, i, 0);

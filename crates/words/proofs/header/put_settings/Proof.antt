@@ -1,4 +1,4 @@
--- `words::header::put_settings` meets its contract: the first ten words are stored.
+-- `words::header::put_settings` meets its contract: the first ten words are stored, and ask for as many words as there are.
 use mathlib.Core.Path.{_∙_}
 use native.Mathlib.Omega.{arith}
 use borrow.Author.Needs.{needs}
@@ -22,8 +22,7 @@ same-length c = search needs
 
 returns : tie.Need-returns
 returns c =
-    settings-put _ _ (c .before .before .before .before .before .before .before .pre .0) (c .before .before .put-words .kept .0 ∙ c .before .before .before .before .before .before .before .pre .0) _
-    (rw (c .before .before .before .before .before .settings-words .ensures) at (c .before .before .put-words .ensures))
+    settings-put _ _ _ (c .before .before .before .before .before .before .before .pre .1) (c .before .before .put-words .kept .0 ∙ c .before .before .before .before .before .before .before .pre .0) (rw (c .before .before .before .before .before .settings-words .ensures) at (c .before .before .put-words .ensures))
 
 pub put-settings-spec : {M : Type 1} → statement M
 put-settings-spec =

@@ -1,21 +1,22 @@
 -- `words::slots::put_reset` meets its contract. The loop's invariant: of the slot, the entries passed are at reset.
 use Prim.Native.Nat.{ℕ, _-_, _≤_}
 use mathlib.Core.List.{List}
-use mathlib.Core.Path.{_≡_, _∙_}
+use mathlib.Core.Path.{_≡_, refl, sym, ap, _∙_}
 use native.Mathlib.Omega.{arith}
 use borrow.Author.Needs.{needs}
 use lib.ListN.{length}
-use Rattle.device.proofs.SizeLaws.{maxVectors-small}
-use Rattle.device.specs.Sizes.{maxVectors}
-use Rattle.device.specs.World.{slotAt, withSlot}
-use Rattle.words.specs.Layout.{hubWords, hubOf}
+use Rattle.device.specs.World.{Hub, slotAt, withSlot}
+use Rattle.words.specs.Layout.{hubOf, Known}
+use Rattle.words.proofs.LayoutLaws.{known-inside, vectors-at}
 use Rattle.words.proofs.SlotLaws.{cleared, slot-kept, cleared-more, cleared-all}
 use Rattle.words.proofs.slots.put_reset.Statement.{statement}
 use Rattle.words.proofs.slots.put_reset.Tie as tie
 
 record Inv (hub₀ : List ℕ) (i vectors : ℕ) (hub : List ℕ) (v : ℕ) : Type 0 where
+  known : Known hub₀ i
+  count : vectors ≡ hubOf hub₀ .settings .vectors
   bound : v ≤ vectors
-  size : length hub ≡ hubWords
+  kept : length hub ≡ length hub₀
   reset : hubOf hub ≡ withSlot (hubOf hub₀) i (cleared (slotAt (hubOf hub₀) i) v)
 
 abbrev Inv-loop : tie.InvT-loop
@@ -30,21 +31,30 @@ reset-requires c κs = search needs
 put-peer-requires : tie.Need-put-peer-requires Inv-loop μ-loop
 put-peer-requires c κs = c .before .before .before .pre
 
-max-vectors-requires : tie.Need-max-vectors-requires Inv-loop μ-loop
-max-vectors-requires c κs = search needs
+count-requires : tie.Need-count-requires Inv-loop μ-loop
+count-requires c κs =
+    omega (arith, known-inside (c .before .before .before .put-peer .last .0) (c .before .before .before .before .before .before .before .args .i) (rw (c .before .before .before .put-peer .ensures) (c .before .before .before .before .before .before .before .pre)))
 
 loop-holds : tie.Need-loop-holds Inv-loop μ-loop
-loop-holds c = record { bound = omega arith; size = c .before .before .before .put-peer .kept .0 ∙ c .before .before .before .before .before .before .before .pre .0; reset = slot-kept _ _ }
+loop-holds c =
+    let known : Known (c .before .before .before .before .put-peer .last .0) (c .before .before .before .before .before .before .before .before .args .i) = rw (c .before .before .before .before .put-peer .ensures) (c .before .before .before .before .before .before .before .before .pre) in
+    record {
+      known = known;
+      count = c .count .ensures ∙ sym (vectors-at (known-inside _ _ known .sized));
+      bound = omega arith;
+      kept = refl;
+      reset = slot-kept _ _;
+    }
 
 reset-requires-2 : tie.Need-reset-requires-2 Inv-loop μ-loop
 reset-requires-2 c κs = search needs
 
 put-entry-requires : tie.Need-put-entry-requires Inv-loop μ-loop
 put-entry-requires c κs =
-    (c .before .before .before .loop .inv .size, (c .before .before .before .before .before .before .before .before .before .before .before .pre .1, rw (c .before .before .before .before .max-vectors .ensures) at (c .before .before .loop-test .taken)))
+    (rw (c .before .before .before .loop .inv .reset) (c .before .before .before .loop .inv .known), rw (c .before .before .before .loop .inv .reset) (rw (c .before .before .before .loop .inv .count) at (c .before .before .loop-test .taken)))
 
 add-v : tie.Need-add-v Inv-loop μ-loop
-add-v c = omega (arith, maxVectors-small, c .before .before .before .before .before .before .before .max-vectors .ensures)
+add-v c = omega arith
 
 loop-less : tie.Need-loop-less Inv-loop μ-loop
 loop-less c = omega arith
@@ -52,36 +62,25 @@ loop-less c = omega arith
 loop-again : tie.Need-loop-again Inv-loop μ-loop
 loop-again c =
     record {
+      known = c .before .before .before .before .before .before .loop .inv .known;
+      count = c .before .before .before .before .before .before .loop .inv .count;
       bound = omega arith;
-      size = c .before .before .put-entry .kept .0 ∙ c .before .before .before .before .before .before .loop .inv .size;
+      kept = c .before .before .put-entry .kept .0 ∙ c .before .before .before .before .before .before .loop .inv .kept;
       reset =
-          cleared-more _ _ _ _ (c .before .before .before .before .before .before .before .before .before .before .before .before .before .before .pre .1) _ (rw (c .before .before .before .before .before .before .before .max-vectors .ensures) at (c .before .before .before .before .before .loop-test .taken))
-          (c .before .before .before .before .before .before .loop .inv .reset)
+          cleared-more _ _ _ _ (c .before .before .before .before .before .before .loop .inv .known) _ (rw (c .before .before .before .before .before .before .loop .inv .count) at (c .before .before .before .before .before .loop-test .taken)) (c .before .before .before .before .before .before .loop .inv .reset)
           (rw (c .before .before .before .reset2 .ensures) at (c .before .before .put-entry .ensures));
     }
 
 same-length : tie.Need-same-length Inv-loop μ-loop
-same-length c = omega (arith, c .before .before .before .before .before .before .before .before .before .pre .0)
+same-length c = c .before .loop .inv .kept ∙ c .before .before .before .before .before .before .put-peer .kept .0
 
 returns : tie.Need-returns Inv-loop μ-loop
 returns c =
-    let e : c .before .loop .v ≡ maxVectors = omega (arith, c .before .before .max-vectors .ensures) in
-    cleared-all _ _ _ _ (c .before .before .before .before .before .before .before .before .before .pre .1) _ (rw (c .before .before .before .before .before .before .reset .ensures) at (c .before .before .before .before .before .put-peer .ensures)) (rw e at (c .before .loop .inv .reset))
+    let e : c .before .loop .v ≡ c .before .before .count .result = omega arith in
+    let last = e ∙ c .before .loop .inv .count ∙ ap (λ (h : Hub). h .settings .vectors) (c .before .before .before .before .before .before .put-peer .ensures) in
+    cleared-all _ _ _ _ (c .before .before .before .before .before .before .before .before .before .before .pre) _ (rw (c .before .before .before .before .before .before .before .reset .ensures) at (c .before .before .before .before .before .before .put-peer .ensures)) (rw last at (c .before .loop .inv .reset))
 
 pub put-reset-spec : {M : Type 1} → statement M
 put-reset-spec =
     tie.close
-    (tie.spec
-    Inv-loop
-    μ-loop
-    reset-requires
-    put-peer-requires
-    max-vectors-requires
-    loop-holds
-    reset-requires-2
-    put-entry-requires
-    add-v
-    loop-less
-    loop-again
-    same-length
-    returns)
+    (tie.spec Inv-loop μ-loop reset-requires put-peer-requires count-requires loop-holds reset-requires-2 put-entry-requires add-v loop-less loop-again same-length returns)
