@@ -22,7 +22,7 @@ pub and-true : (a : Bool) → (a && true) ≡ a
 and-true true = refl
 and-true false = refl
 
-and-assoc : (a b c : Bool) → ((a && b) && c) ≡ (a && (b && c))
+pub and-assoc : (a b c : Bool) → ((a && b) && c) ≡ (a && (b && c))
 and-assoc true b c = refl
 and-assoc false b c = refl
 
@@ -170,3 +170,9 @@ pub below-ext : (n : ℕ) (t u : ℕ → Bool) → ((i : ℕ) → i < n → t i 
 unfolding below
 below-ext zero t u same = refl
 below-ext (suc n) t u same = rw (below-ext n t u (λ i h. same i (omega arith)), same n (omega arith))
+
+-- two tests at every number below n
+pub below-both : (n : ℕ) (t u : ℕ → Bool) → below n (λ i. t i && u i) ≡ (below n t && below n u)
+unfolding below
+below-both zero t u = refl
+below-both (suc n) t u = rw (below-both n t u) (and-swap (below n t) (below n u) (t n) (u n))

@@ -1,3 +1,3 @@
-pub mod EntriesLaws
 pub mod PartsLaws
+pub mod ScanLaws
 pub mod WholeLaws

@@ -1,15 +1,8 @@
-// A slot's registers and entries: fixed bits where the slot is in use, reset values where it is not.
-use device::Entry;
+// A peer's registers: fixed bits where it is connected, reset values where it is not.
 use device::Peer;
 use device::Settings;
 ghost use mathlib.Core.Path.{_≡_};
 ghost use Rattle.device.specs.Sound;
-
-pub fn in_use(s: Settings, i: u64, p: Peer) -> bool
-    ensures { λ r. ⌜ r ≡ Sound.inUse s i p ⌝ }
-{
-    (i < s.peers) & (p.connected == 1)
-}
 
 pub fn peer_fixed(s: Settings, p: Peer) -> bool
     ensures { λ r. ⌜ r ≡ Sound.peerFixed s p ⌝ }
@@ -33,16 +26,4 @@ pub fn peer_reset(p: Peer) -> bool
         & (p.message == 0)
         & (p.interrupt == 0)
         & (p.state == 0)
-}
-
-pub fn entry_fixed(e: Entry) -> bool
-    ensures { λ r. ⌜ r ≡ Sound.entryFixed e ⌝ }
-{
-    ((e.low & 0xFFFFFFFC) == e.low) & ((e.control & 0x00000001) == e.control)
-}
-
-pub fn entry_reset(e: Entry) -> bool
-    ensures { λ r. ⌜ r ≡ Sound.entryReset e ⌝ }
-{
-    (e.low == 0) & (e.high == 0) & (e.payload == 0) & (e.control == 1)
 }

@@ -1,83 +1,94 @@
-// The whole hub: every slot is tested, none is left out early, with one branch for each, so that the compiler can vectorise.
+// The whole hub, in one pass over the peers. The entries of neighbours that are all connected, or all not, are tested together:
+// in each column they stand in one run of words.
+use device::Peer;
 use device::Settings;
 ghost use mathlib.Core.Path.{_≡_};
-ghost use mathlib.Core.Bool.{true, cond};
-ghost use Prim.Native.Nat.{_<_};
-ghost use lib.Dec.{ltb};
-ghost use lib.ListN.{length};
+ghost use Prim.Native.Nat.{_+_};
 ghost use Rattle.common.specs.Tests.{below};
-ghost use Rattle.device.specs.Sizes.{maxPeers, maxVectors};
 ghost use Rattle.device.specs.Sound;
-ghost use Rattle.device.specs.World.{slotAt, entryAt};
-ghost use Rattle.words.specs.Layout.{hubWords, hubOf};
+ghost use Rattle.device.specs.World.{slotAt};
+ghost use Rattle.words.specs.Layout.{hubOf, Known};
+ghost use Rattle.soundness.specs.Scanned.{Scanned, Uniform, entriesFrom};
 
-fn entries_fixed(hub: &[u32], i: usize) -> bool
-    requires room { ⌜ length (now hub) ≡ hubWords ⌝ }
-    requires known { ⌜ i < maxPeers ⌝ }
-    ensures { λ r. ⌜ r ≡ below maxVectors (λ v. Sound.entryFixed (entryAt (slotAt (hubOf (now (hub .entry))) i) v)) ⌝ }
-{
-    let vectors = device::max_vectors();
-    let mut ok = true;
-    let mut v = 0;
-    while v < vectors {
-        ok = ok & super::parts::entry_fixed(words::entry(hub, i, v));
-        v += 1;
-    }
-    ok
+// The peers passed so far: whether all is sound but the entries of the last run, where that run begins, and whether its peers are
+// connected.
+struct Scan {
+    ok: bool,
+    from: usize,
+    used: bool,
 }
 
-// The entries from this vector to the last; none where it is beyond the last.
-fn entries_reset(hub: &[u32], i: usize, from: usize) -> bool
-    requires room { ⌜ length (now hub) ≡ hubWords ⌝ }
-    requires known { ⌜ i < maxPeers ⌝ }
-    ensures { λ r. ⌜ r ≡ below maxVectors (λ v. cond (ltb v from) true (Sound.entryReset (entryAt (slotAt (hubOf (now (hub .entry))) i) v))) ⌝ }
+fn peer_sound(s: Settings, p: Peer) -> bool
+    ensures { λ r. ⌜ r ≡ Sound.peerSound s p ⌝ }
 {
-    let vectors = device::max_vectors();
-    let mut ok = true;
-    let mut v = from;
-    while v < vectors {
-        ok = ok & super::parts::entry_reset(words::entry(hub, i, v));
-        v += 1;
+    if p.connected == 1 {
+        return super::parts::peer_fixed(s, p);
     }
-    ok
+    super::parts::peer_reset(p)
 }
 
-// Reset values have the fixed bits too, so all entries of a slot in use are tested for these, and no branch depends on a vector.
-// Those not in use come first: where both branches began with the same loads, fewer were vectorised.
-fn slot_sound(hub: &[u32], s: Settings, i: usize) -> bool
-    requires room { ⌜ length (now hub) ≡ hubWords ⌝ }
-    requires known { ⌜ i < maxPeers ⌝ }
-    ensures { λ r. ⌜ r ≡ Sound.slotSound s i (slotAt (hubOf (now (hub .entry))) i) ⌝ }
+fn run_sound(hub: &[u32], from: usize, to: usize, used: bool) -> bool
+    requires { ⌜ Uniform (now hub) from to used ⌝ }
+    ensures { λ r. ⌜ r ≡ entriesFrom (hubOf (now (hub .entry))) from to ⌝ }
+{
+    if to <= from {
+        return true;
+    }
+    if used {
+        return words::entries_only(hub, from, to, 0xFFFFFFFC, 0x00000001);
+    }
+    words::entries_reset(hub, from, to)
+}
+
+// One peer more. Where it ends the run, the run's entries are tested.
+fn scan_peer(hub: &[u32], s: Settings, i: usize, scan: Scan) -> Scan
+    requires known { ⌜ Known (now hub) i ⌝ }
+    requires passed { ⌜ Scanned (now hub) s i scan ⌝ }
+    ensures { λ r. ⌜ Scanned (now (hub .entry)) s (i + 1) r ⌝ }
 {
     let p = words::peer(hub, i);
-    let used = super::parts::in_use(s, i as u64, p);
-    if used {
-        let unused = entries_reset(hub, i, s.vectors as usize);
-        let fixed = entries_fixed(hub, i);
-        return super::parts::peer_fixed(s, p) & (fixed & unused);
+    let used = p.connected == 1;
+    let ok = scan.ok & peer_sound(s, p);
+    let changed = (used & !scan.used) | (!used & scan.used);
+    if changed {
+        let run = run_sound(hub, scan.from, i, scan.used);
+        return Scan {
+            ok: ok & run,
+            from: i,
+            used,
+        };
     }
-    let entries = entries_reset(hub, i, 0);
-    super::parts::peer_reset(p) & entries
+    Scan {
+        ok,
+        from: scan.from,
+        used,
+    }
 }
 
 fn slots_sound(hub: &[u32], s: Settings) -> bool
-    requires { ⌜ length (now hub) ≡ hubWords ⌝ }
-    ensures { λ r. ⌜ r ≡ below maxPeers (λ i. Sound.slotSound s i (slotAt (hubOf (now (hub .entry))) i)) ⌝ }
+    requires { ⌜ s ≡ hubOf (now hub) .settings ⌝ }
+    ensures { λ r. ⌜ r ≡ below (s .peers) (λ i. Sound.slotSound s (slotAt (hubOf (now (hub .entry))) i)) ⌝ }
 {
-    let peers = device::max_peers();
-    let mut ok = true;
+    let peers = s.peers as usize;
+    let mut scan = Scan {
+        ok: true,
+        from: 0,
+        used: true,
+    };
     let mut i = 0;
     while i < peers {
-        ok = ok & slot_sound(hub, s, i);
+        scan = scan_peer(hub, s, i, scan);
         i += 1;
     }
-    ok
+    let last = run_sound(hub, scan.from, peers, scan.used);
+    scan.ok & last
 }
 
 pub fn sound(hub: &[u32]) -> bool
     ensures { λ r. ⌜ r ≡ Sound.sound (hubOf (now (hub .entry))) ⌝ }
 {
-    if hub.len() != words::hub_words() {
+    let sized = words::fits(hub);
+    if !sized {
         return false;
     }
     let s = words::settings(hub);

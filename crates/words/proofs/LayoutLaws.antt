@@ -13,10 +13,12 @@ use Rattle.common.proofs.ListLaws.{length-tabulate, getD-tabulate, tabulate-at,
 use Rattle.common.proofs.TestLaws.{every-true}
 use Rattle.common.specs.Lists.{tabulate}
 use Rattle.common.specs.Tests.{every}
+use Rattle.device.proofs.SetUpLaws.{accepted-facts}
 use Rattle.device.proofs.SizeLaws.{maxPeers-small, maxVectors-small}
 use Rattle.device.specs.declared.Entry.{Entry}
 use Rattle.device.specs.declared.Peer.{Peer}
 use Rattle.device.specs.declared.Settings.{Settings}
+use Rattle.device.specs.SetUp.{accepted}
 use Rattle.device.specs.Sizes.{maxPeers, maxVectors}
 use Rattle.device.specs.World.{Hub, Slot, zeroSlot, zeroEntry, zeroHub, slotAt, entryAt, withSlot, withPeer, withEntry}
 use Rattle.words.specs.Layout.{hubWords, word, settingsOf, peerStart, peerOf, entryStart, entryOf, slotOf, decoded, fits, hubOf, Known, Storable}
@@ -72,6 +74,10 @@ by-fits {P} ws there other = go (fits ws) refl
 pub known-sized : (ws : List ℕ) (i : ℕ) → Known ws i → Sized ws (word ws 0) (word ws 1)
 unfolding zeroHub
 known-sized ws i h = by-fits ws (λ z. z) (λ (e : hubOf ws ≡ zeroHub). absurd (not-suc-le-zero (rw e at h)))
+
+-- and so do words with accepted settings
+pub accepted-fits : (ws : List ℕ) → accepted (hubOf ws .settings) ≡ true → fits ws ≡ true
+accepted-fits ws a = sized-fits (known-sized ws 0 (omega (arith, accepted-facts _ a .two)))
 
 module _ {ws : List ℕ} {n m : ℕ} (z : Sized ws n m) where
   pub settings-at : hubOf ws .settings ≡ settingsOf ws

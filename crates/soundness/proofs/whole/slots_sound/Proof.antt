@@ -1,49 +1,43 @@
--- `soundness::whole::slots_sound` meets its contract. The loop's invariant: the slots passed have been tested.
+-- `soundness::whole::slots_sound` meets its contract. The loop's invariant: the peers passed have been scanned.
 use Prim.Native.Nat.{_-_, _≤_}
-use mathlib.Core.Path.{_≡_, refl, sym}
-use native.Mathlib.Numerals.{add-one}
+use mathlib.Core.Path.{_≡_, ap, _∙_}
 use native.Mathlib.Omega.{arith}
-use Rattle.common.proofs.TestLaws.{below-suc}
-use Rattle.common.specs.Tests.{below}
-use Rattle.device.proofs.SizeLaws.{maxPeers-small}
-use Rattle.device.specs.Sizes.{maxPeers}
-use Rattle.device.specs.Sound.{slotSound}
-use Rattle.device.specs.World.{slotAt}
-use Rattle.words.specs.Layout.{hubOf}
+use Rattle.device.specs.declared.Settings.{Settings}
+use Rattle.soundness.specs.Scanned.{Scanned}
+use Rattle.soundness.proofs.ScanLaws.{scan-first, scan-last}
 use Rattle.soundness.proofs.whole.slots_sound.Statement.{statement}
 use Rattle.soundness.proofs.whole.slots_sound.Tie as tie
 
 abbrev Inv-loop : tie.InvT-loop
-Inv-loop hub s peers ok₀ i₀ ok i =
-    (peers ≡ maxPeers) × (i ≤ peers) × (ok ≡ below i (λ k. slotSound s k (slotAt (hubOf hub) k)))
+Inv-loop hub s peers scan₀ i₀ scan i = (i ≤ peers) × Scanned hub s i scan
 
 abbrev μ-loop : tie.MeasureT-loop
-μ-loop hub s peers ok₀ i₀ ok i = peers - i
-
-max-peers-requires : tie.Need-max-peers-requires Inv-loop μ-loop
-max-peers-requires c κs = tt
+μ-loop hub s peers scan₀ i₀ scan i = peers - i
 
 loop-holds : tie.Need-loop-holds Inv-loop μ-loop
-unfolding below
-loop-holds c = (c .max-peers .ensures, omega arith, refl)
+loop-holds c = (omega arith, scan-first _ _ _)
 
-slot-sound-requires : tie.Need-slot-sound-requires Inv-loop μ-loop
-slot-sound-requires c κs = (c .before .before .before .before .pre, omega arith)
+scan-peer-requires : tie.Need-scan-peer-requires Inv-loop μ-loop
+scan-peer-requires c κs = (rw (ap (λ (s : Settings). s .peers) (c .before .before .before .pre)) at (c .loop-test .taken), c .before .loop .inv .1)
 
 add-i : tie.Need-add-i Inv-loop μ-loop
-add-i c = omega (arith, maxPeers-small)
+add-i c = omega arith
 
 loop-less : tie.Need-loop-less Inv-loop μ-loop
 loop-less c = omega arith
 
 loop-again : tie.Need-loop-again Inv-loop μ-loop
-loop-again c =
-    (c .before .before .loop .inv .0, omega arith, rw (c .before .before .loop .inv .2, c .slot-sound .ensures, add-one) (sym (below-suc _ _)))
+loop-again c = (omega arith, c .scan-peer .ensures)
+
+run-sound-requires : tie.Need-run-sound-requires Inv-loop μ-loop
+run-sound-requires c κs =
+    let e : c .before .loop .i ≡ c .before .before .before .args .s .peers = omega arith in
+    (rw e at (c .before .loop .inv .1)) .run
 
 returns : tie.Need-returns Inv-loop μ-loop
 returns c =
-    let e : c .before .loop .i ≡ maxPeers = omega arith in
-    rw e at (c .before .loop .inv .2)
+    let e : c .before .before .before .loop .i ≡ c .before .before .before .before .before .args .s .peers = omega arith in
+    rw (c .before .run-sound .ensures) (scan-last _ _ _ (c .before .before .before .before .before .pre) (rw e at (c .before .before .before .loop .inv .1)))
 
 pub slots-sound-spec : {M : Type 1} → statement M
 slots-sound-spec =
@@ -51,10 +45,10 @@ slots-sound-spec =
     (tie.spec
     Inv-loop
     μ-loop
-    max-peers-requires
     loop-holds
-    slot-sound-requires
+    scan-peer-requires
     add-i
     loop-less
     loop-again
+    run-sound-requires
     returns)

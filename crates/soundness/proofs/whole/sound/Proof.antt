@@ -1,21 +1,21 @@
--- `soundness::whole::sound` meets its contract: words of another length are the all-zero hub, which is not sound.
+-- `soundness::whole::sound` meets its contract: words that do not fit are the all-zero hub, which is not sound.
 use mathlib.Core.Path.{sym, _∙_}
 use borrow.Author.Needs.{needs}
+use borrow.Author.Tests.{not-true, not-false}
 use Rattle.device.proofs.SetUpLaws.{zero-unsound}
 use Rattle.device.specs.Sound.{sound}
-use Rattle.words.proofs.LayoutLaws.{other-length}
+use Rattle.words.proofs.LayoutLaws.{no-hub}
 use Rattle.soundness.proofs.whole.sound.Statement.{statement}
 use Rattle.soundness.proofs.whole.sound.Tie as tie
 
-hub-words-requires : tie.Need-hub-words-requires
-hub-words-requires c κs = search needs
+fits-requires : tie.Need-fits-requires
+fits-requires c κs = search needs
 
 returns : tie.Need-returns
-returns c =
-    rw (other-length (c .before .before .before .args .hub .now) (λ e. c .if1 .taken (e ∙ sym (c .before .hub-words .ensures)))) (sym zero-unsound)
+returns c = rw (no-hub _ (sym (c .before .fits2 .ensures) ∙ not-true _ (c .if1 .taken))) (sym zero-unsound)
 
 settings-requires : tie.Need-settings-requires
-settings-requires c κs = search needs
+settings-requires c κs = sym (c .before .fits2 .ensures) ∙ not-false _ (c .if1 .left)
 
 accepted-requires : tie.Need-accepted-requires
 accepted-requires c κs = search needs
@@ -34,4 +34,4 @@ returns-3 c = rw (← (c .before .before .settings .ensures), ← (c .before .ac
 pub sound-spec : {M : Type 1} → statement M
 sound-spec =
     tie.close
-    (tie.spec hub-words-requires returns settings-requires accepted-requires slots-sound-requires returns-2 returns-3)
+    (tie.spec fits-requires returns settings-requires accepted-requires slots-sound-requires returns-2 returns-3)
