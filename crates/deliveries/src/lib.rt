@@ -72,7 +72,7 @@ fn ring_other(hub: &mut [u32], i: u64, who: u64) -> RingOutcome
     if i == who {
         return RingOutcome::Lost;
     }
-    gate::ring(hub, PeerId(i as u32), Vector(0))
+    gate::ring(hub, PeerId(i as u16), Vector(0))
 }
 
 // Vector 0 rung at every other id, ascending.

@@ -23,10 +23,10 @@ pub fn max_vectors() -> usize
 
 // A peer's id and a vector number: two types, so that one cannot be passed for the other.
 #[repr(C)]
-pub struct PeerId(pub u32);
+pub struct PeerId(pub u16);
 
 #[repr(C)]
-pub struct Vector(pub u32);
+pub struct Vector(pub u16);
 
 // The set-up numbers, the same for all peers.
 pub struct Settings {
@@ -139,13 +139,13 @@ pub enum Target {
     Nobody,
 }
 
-// An interrupt handed to the host.
+// An interrupt handed to the host: 16 bytes, with no padding.
 #[repr(C)]
 pub struct Delivery {
-    pub target: PeerId,
-    pub vector: Vector,
     pub address: u64,
     pub payload: u32,
+    pub target: PeerId,
+    pub vector: Vector,
 }
 
 // The section that a range of the shared region lies in.

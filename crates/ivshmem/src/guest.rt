@@ -76,7 +76,7 @@ fn owner_number(kind: SectionKind) -> u32
         SectionKind::Nothing => 0,
         SectionKind::StateTable => 0,
         SectionKind::ReadWrite => 0,
-        SectionKind::Output(owner) => owner.0,
+        SectionKind::Output(owner) => owner.0 as u32,
     }
 }
 

@@ -66,11 +66,11 @@ pub fn with_state(p: Peer, value: u32) -> Peer
 pub fn rung_vector(value: u32) -> Vector
     ensures { λ r. ⌜ r ≡ rungVector value ⌝ }
 {
-    Vector(value % 65536)
+    Vector((value % 65536) as u16)
 }
 
 pub fn rung_peer(value: u32) -> PeerId
     ensures { λ r. ⌜ r ≡ rungPeer value ⌝ }
 {
-    PeerId(value / 65536 % 65536)
+    PeerId((value / 65536 % 65536) as u16)
 }

@@ -33,7 +33,7 @@ fn output_of(s: Settings, offset: u64, length: u64) -> SectionKind
     if first + i * size + size < offset + length {
         return SectionKind::Nothing;
     }
-    SectionKind::Output(PeerId(i as u32))
+    SectionKind::Output(PeerId(i as u16))
 }
 
 pub fn section_of(s: Settings, offset: u64, length: u64) -> SectionKind

@@ -172,14 +172,14 @@ module _ {M : Type 1} (𝓤 : URA M) (H : Heap 𝓤) (A : Atoms 𝓤) (W : Given
         assigns ! (bin ! (load ! (from ! (stop !)) (look ! 10 refl)) (lit ! tt) (record { fits = at-fits i small })) (from ! (stop !)) (init ! 8 refl (tt, record { fits = at-fits i small })) $
         assigns ! (addr ! (from ! (fld ! refl (stop !)))) (from ! (stop !)) (init ! 7 refl (tt, tt)) $
         assigns ! (bin ! (load ! (from ! (stop !)) (look ! 7 refl)) (load ! (from ! (stop !)) (look ! 8 refl)) tt) (from ! (stop !)) (init ! 6 refl (tt, tt)) $
-        -- (the array begins at the byte 8 of the list, and a record has 24)
-        rewrite ! 6 (λ (p : ℕ). ‵ (fat fullShare tyPtr l₉ 0 (vptr l₃ p))) (sym (place-is 24 8 i)) refl $
+        -- (the array begins at the byte 8 of the list, and a record has 16)
+        rewrite ! 6 (λ (p : ℕ). ‵ (fat fullShare tyPtr l₉ 0 (vptr l₃ p))) (sym (place-is 16 8 i)) refl $
         assigns ! (of-opd ! (load ! (from ! (hop ! (look ! 6 refl) (stop !))) (look-in ! 12 (elem ! us i _ (within i small) (length-map (map (D.the-field .into) (list .records)) (D′.the-field-laws .val) ∙ LL.owed L.the-type L′.the-laws list _ is-list .1 .0 .1 .0 .1) (sub ! 1 refl (whole !)))))) (from ! (stop !)) (init ! 5 refl (read-typed i small)) $
         rewrite ! 5 (λ (w : Val). ‵ (fat fullShare D′.mir l₁₀ 0 w)) (one-val i) refl $
         -- and into the table
         assigns ! (bin ! (load ! (from ! (stop !)) (look ! 10 refl)) (lit ! tt) (record { fits = at-fits i small })) (from ! (stop !)) (init ! 4 refl (tt, record { fits = at-fits i small })) $
         assigns ! (bin ! (load ! (from ! (fld ! refl (stop !))) (look-in ! 14 (sub ! 0 refl (whole !)))) (load ! (from ! (stop !)) (look ! 4 refl)) tt) (from ! (stop !)) (init ! 3 refl (tt, tt)) $
-        rewrite ! 3 (λ (p : ℕ). ‵ (fat fullShare tyPtr l₁₂ 0 (vptr b p))) (sym (place-is 24 o i)) refl $
+        rewrite ! 3 (λ (p : ℕ). ‵ (fat fullShare tyPtr l₁₂ 0 (vptr b p))) (sym (place-is 16 o i)) refl $
         opens-slice ! tt D.the-row (zs i) b o $
         elem-out ! D.the-row (Is D.the-row) (shows 𝓤 H A D.the-row) (LL.vals D.the-type D′.the-laws) (LL.tells D.the-type D′.the-laws) fullShare (zs i) i noDelivery b o (inside i small) (λ _.
         -- [table[i]; what it owns; the others; the open borrow; obs; auth; _12; _11; _10; …]
@@ -194,7 +194,7 @@ module _ {M : Type 1} (𝓤 : URA M) (H : Heap 𝓤) (A : Atoms 𝓤) (W : Given
         use0 W (given (i + 1 ≤ list .count) (‵ ftrue)) (guardI 𝓤 (i + 1 ≤ list .count) (emp 𝓤) (omega (arith, small))) $
         again ! Left Inv i (i + 1) (omega (arith, small)))
       where
-        at-fits : (i : ℕ) → i < list .count → i * 24 < 2 ^ 64
+        at-fits : (i : ℕ) → i < list .count → i * 16 < 2 ^ 64
         at-fits i small = omega (arith, small, ok .room, room .1)
 
         next-fits : (i : ℕ) → i < list .count → i + 1 < 2 ^ 64

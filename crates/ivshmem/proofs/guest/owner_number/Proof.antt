@@ -16,6 +16,9 @@ enum-told-3 c = search needs
 enum-known-kind : tie.Need-enum-known-kind
 enum-known-kind c = search needs
 
+cast-result : tie.Need-cast-result
+cast-result c = search needs
+
 returns : tie.Need-returns
 unfolding ownerNumber
 returns c = search needs
@@ -30,7 +33,7 @@ returns-3 c = search needs
 
 returns-4 : tie.Need-returns-4
 unfolding ownerNumber
-returns-4 c = rw (c .before .kind .given .1)
+returns-4 c = rw (c .before .before .kind .given .1)
 
 pub owner-number-spec : {M : Type 1} → statement M
 owner-number-spec =
@@ -40,6 +43,7 @@ owner-number-spec =
     enum-told-2
     enum-told-3
     enum-known-kind
+    cast-result
     returns
     returns-2
     returns-3
