@@ -26,6 +26,23 @@ pub fn entry(hub: &[u32], i: usize, v: usize) -> Entry
     super::parts::entry_from(hub, at, n * m)
 }
 
+// The same for any words, id and vector: zeros where there is no such entry.
+pub fn entry_at(hub: &[u32], i: usize, v: usize) -> Entry
+    ensures { λ r. ⌜ r ≡ entryAt (slotAt (hubOf (now (hub .entry))) i) v ⌝ }
+{
+    let room = hub.len() == super::hub_words();
+    let there = room & (i < device::max_peers()) & (v < device::max_vectors());
+    if there {
+        return entry(hub, i, v);
+    }
+    Entry {
+        low: 0,
+        high: 0,
+        payload: 0,
+        control: 0,
+    }
+}
+
 pub fn put_entry(hub: &mut [u32], i: usize, v: usize, e: Entry)
     requires known { ⌜ Known (now hub) i ⌝ }
     requires vector { ⌜ KnownVector (now hub) v ⌝ }

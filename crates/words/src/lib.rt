@@ -11,6 +11,7 @@ mod slots;
 pub use columns::entries_only;
 pub use columns::entries_reset;
 pub use entries::entry;
+pub use entries::entry_at;
 pub use entries::put_entry;
 pub use header::put_settings;
 pub use header::settings;
