@@ -1,5 +1,5 @@
--- Laws of one ring: what a target tells, what one ring leaves, and that a ring keeps the settings and delivers at most one
--- interrupt.
+-- Laws of one ring: what a target tells, what one ring leaves, and that a ring keeps the settings and the MSI-X entries and
+-- delivers at most one interrupt.
 use Prim.Native.Nat.{ℕ, _≤_, _<_}
 use mathlib.Core.Bool.{Bool, true, false, cond, not, _&&_}
 use mathlib.Core.List.{List, [], _∷_}
@@ -8,6 +8,7 @@ use native.Mathlib.Omega.{arith}
 use borrow.Author.Tests.{ltb-true, lt-ltb, eq-eqb}
 use lib.Dec.{eqb, ltb}
 use lib.ListN.{length, getD}
+use Rattle.common.proofs.ListLaws.{getD-set}
 use Rattle.common.proofs.TestLaws.{every-false, every-true}
 use Rattle.common.specs.Tests.{every}
 use Rattle.device.proofs.SetUpLaws.{accepted-facts}
@@ -18,14 +19,14 @@ use Rattle.device.specs.declared.Settings.{Settings}
 use Rattle.device.specs.declared.Target.{Target}
 use Rattle.device.specs.declared.Target.the-variants.{Live, Nobody}
 use Rattle.device.specs.declared.Vector.{Vector}
-use Rattle.device.specs.Ring.{Rung, rung, gateOf, opens, target, deliveryOf, withInterrupt, afterDelivery, ringAt, ring}
+use Rattle.device.specs.Ring.{Rung, rung, gateOf, opens, target, withInterrupt, afterDelivery, ringAt, ring}
 use Rattle.device.specs.SetUp.{accepted}
 use Rattle.device.specs.Sizes.{maxPeers, maxVectors}
-use Rattle.device.specs.World.{Hub, slotAt, entryAt, withSlot, withPeer}
+use Rattle.device.specs.World.{Hub, Slot, zeroSlot, slotAt, entryAt, withSlot, withPeer}
 use Rattle.words.proofs.SlotLaws.{slot-kept}
 use Rattle.words.specs.Layout.{hubOf}
 use Rattle.gate.specs.PassedGate.{passedGate}
-use Rattle.gate.specs.RingOutcome.{Usable, disarmed}
+use Rattle.gate.specs.RingOutcome.{sentAt, outcomeList, Usable, disarmed}
 
 -- ids and vectors of a usable hub are those of its words
 pub peer-below : (ws : List ℕ) (i : ℕ) → Usable ws → i < hubOf ws .settings .peers → i < maxPeers
@@ -76,10 +77,6 @@ tests hub t v =
     ∷ ltb (v .0) (hub .settings .vectors)
     ∷ []
 
--- the delivery of a ring that finds every switch on
-abbrev sent : Hub → PeerId → Vector → List Delivery
-sent hub t v = deliveryOf t v (entryAt (slotAt hub (t .0)) (v .0)) ∷ []
-
 module _ (hub : Hub) (t : PeerId) (v : Vector) where
   pub nobody : (k : ℕ) → getD (tests hub t v) k true ≡ false → Nobody ≡ target hub t v
   unfolding target
@@ -91,25 +88,25 @@ module _ (hub : Hub) (t : PeerId) (v : Vector) where
   live known connected few = rw (lt-ltb _ _ known, eq-eqb _ _ connected, lt-ltb _ _ few)
 
   -- what a ring that finds a gate knows
-  pub found : (gate : Gate) → Live gate ≡ target hub t v → (t .0 < hub .settings .peers) × (v .0 < hub .settings .vectors)
+  pub found : (gate : Gate) → Live gate ≡ target hub t v → t .0 < hub .settings .peers
   unfolding target
   found gate e = by (every (tests hub t v)) refl
     where
-      by : (b : Bool) → every (tests hub t v) ≡ b → (t .0 < hub .settings .peers) × (v .0 < hub .settings .vectors)
-      by true f = (ltb-true _ _ (every-true (tests hub t v) f 0), ltb-true _ _ (every-true (tests hub t v) f 2))
+      by : (b : Bool) → every (tests hub t v) ≡ b → t .0 < hub .settings .peers
+      by true f = ltb-true _ _ (every-true (tests hub t v) f 0)
       by false f = let z : _≡_ {A = ℕ} 0 1 = cc in absurd (omega arith)
 
   -- what a ring leaves: at nobody, and at a gate that is open or not
-  pub unanswered : Nobody ≡ target hub t v → rung hub [] ≡ ring hub t v
-  unfolding ring ringAt
+  pub unanswered : Nobody ≡ target hub t v → rung hub (outcomeList hub t v false) ≡ ring hub t v
+  unfolding ring ringAt outcomeList
   unanswered e = rw (← e)
 
   module _ (gate : Gate) (at : Live gate ≡ target hub t v) where
     by-switches : (on : Bool) → opens gate ≡ on
-        → rung (cond (on && gate .oneshot) (disarmed hub (t .0)) hub) (cond on (sent hub t v) []) ≡ ring hub t v
-    unfolding ring ringAt afterDelivery
+        → rung (cond (on && gate .oneshot) (disarmed hub (t .0)) hub) (outcomeList hub t v on) ≡ ring hub t v
+    unfolding ring ringAt afterDelivery outcomeList sentAt
     by-switches false o = rw (← at, o)
-    by-switches true o = rw (← at, o) (ap (λ (h : Hub). rung h (sent hub t v)) (either (gate .oneshot)))
+    by-switches true o = rw (← at, o) (ap (λ (h : Hub). rung h (sentAt hub v (t .0) ∷ [])) (either (gate .oneshot)))
       where
         either : (b : Bool)
             → cond b (disarmed hub (t .0)) hub
@@ -117,24 +114,48 @@ module _ (hub : Hub) (t : PeerId) (v : Vector) where
         either true = refl
         either false = slot-kept hub (t .0)
 
-    pub answered : (on : Bool) → opens gate ≡ on
-        → rung (cond (gate .interrupt && not (passedGate gate .interrupt)) (disarmed hub (t .0)) hub) (cond on (sent hub t v) []) ≡ ring hub t v
-    answered on o = rw (cleared gate, o) (by-switches on o)
+    pub answered :
+        rung (cond (gate .interrupt && not (passedGate gate .interrupt)) (disarmed hub (t .0)) hub) (outcomeList hub t v (opens gate)) ≡ ring hub t v
+    answered = rw (cleared gate) (by-switches (opens gate) refl)
 
--- rings keep the settings, and deliver at most so many interrupts
+-- every MSI-X entry is as it was, and so is a record made from one
+abbrev pub SameEntries : Hub → Hub → Type 0
+SameEntries before after = (i v : ℕ) → entryAt (slotAt after i) v ≡ entryAt (slotAt before i) v
+
+pub sent-same : (before after : Hub) (v : Vector) (t : ℕ) → SameEntries before after → sentAt after v t ≡ sentAt before v t
+unfolding sentAt
+sent-same before after v t same = rw (same t (v .0))
+
+-- rings keep the settings and the entries, and deliver at most so many interrupts
 pub record Kept (hub : Hub) (n : ℕ) (r : Rung) : Type 0 where
   pub settings : r .hub .settings ≡ hub .settings
+  pub entries : SameEntries hub (r .hub)
   pub few : length (r .deliveries) ≤ n
 
+pub none-kept : (hub : Hub) (n : ℕ) → Kept hub n (rung hub [])
+none-kept hub n = record { settings = refl; entries = λ i v. refl; few = omega arith }
+
 module _ (hub : Hub) (t : PeerId) (v : Vector) where
-  either-kept : (b : Bool) (h : Hub) (d : Delivery) → h .settings ≡ hub .settings → Kept hub 1 (cond b (rung h (d ∷ [])) (rung hub []))
-  either-kept true h d e = record { settings = e; few = omega arith }
-  either-kept false h d e = record { settings = refl; few = omega arith }
+  slot-entries : (gate : Gate) (slot : Slot) → afterDelivery gate slot .entries ≡ slot .entries
+  unfolding afterDelivery
+  slot-entries gate slot = by (gate .oneshot)
+    where
+      by : (b : Bool) → cond b (withPeer slot (withInterrupt (slot .peer) 0)) slot .entries ≡ slot .entries
+      by true = refl
+      by false = refl
+
+  at-entries : (gate : Gate) → SameEntries hub (withSlot hub (t .0) (afterDelivery gate (slotAt hub (t .0))))
+  at-entries gate i w =
+      getD-set (λ s. entryAt s w ≡ entryAt (slotAt hub i) w) (hub .slots) (t .0) i _ zeroSlot (λ e. rw (e, slot-entries gate (slotAt hub (t .0)))) refl
+
+  either-kept : (b : Bool) (gate : Gate) (d : Delivery) → Kept hub 1 (cond b (rung (withSlot hub (t .0) (afterDelivery gate (slotAt hub (t .0)))) (d ∷ [])) (rung hub []))
+  either-kept true gate d = record { settings = refl; entries = at-entries gate; few = omega arith }
+  either-kept false gate d = none-kept hub 1
 
   at-kept : (target : Target) → Kept hub 1 (ringAt hub t v target)
   unfolding ringAt
-  at-kept Nobody = record { settings = refl; few = omega arith }
-  at-kept (Live gate) = either-kept (opens gate) _ _ refl
+  at-kept Nobody = none-kept hub 1
+  at-kept (Live gate) = either-kept (opens gate) gate _
 
   pub ring-kept : Kept hub 1 (ring hub t v)
   unfolding ring

@@ -1,5 +1,4 @@
 // One ring of one vector at one id of a hub.
-use super::RingOutcome;
 use device::Entry;
 use device::PeerId;
 use device::Target;
@@ -56,20 +55,17 @@ fn disarm(hub: &mut [u32], t: PeerId, clear: bool)
 }
 
 // The ring passes the target's gate. Where that clears the gate's interrupt, Interrupt Control is cleared with it.
-pub fn ring(hub: &mut [u32], t: PeerId, v: Vector) -> RingOutcome
+// The answer is whether the ring is delivered.
+pub fn ring(hub: &mut [u32], t: PeerId, v: Vector) -> bool
     requires { ⌜ Usable (now hub) ⌝ }
     ensures hub { λ r. ⌜ hubOf (now (hub .exit)) ≡ Ring.ring (hubOf (now (hub .entry))) t v .hub ⌝ }
-    ensures deliveries { λ r. ⌜ outcomeList r ≡ Ring.ring (hubOf (now (hub .entry))) t v .deliveries ⌝ }
+    ensures deliveries { λ r. ⌜ outcomeList (hubOf (now (hub .entry))) t v r ≡ Ring.ring (hubOf (now (hub .entry))) t v .deliveries ⌝ }
 {
     let Target::Live(gate) = target(hub, t, v) else {
-        return RingOutcome::Lost;
+        return false;
     };
-    let e = entry_of(hub, t, v);
     let passed = super::pass_local(gate);
     let after = passed.gate;
     disarm(hub, t, gate.interrupt & !after.interrupt);
-    if passed.delivered {
-        return RingOutcome::Delivered(super::delivery_of(t, v, e));
-    }
-    RingOutcome::Lost
+    passed.delivered
 }

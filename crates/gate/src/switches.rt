@@ -1,12 +1,9 @@
-// The switches of a target, and the delivery from an entry.
-use device::Delivery;
+// The switches of a target.
 use device::Entry;
 use device::Gate;
 use device::Peer;
-use device::PeerId;
-use device::Vector;
 ghost use mathlib.Core.Path.{_≡_};
-ghost use Rattle.device.specs.Ring.{gateOf, opens, deliveryOf};
+ghost use Rattle.device.specs.Ring.{gateOf, opens};
 ghost use Rattle.gate.specs.PassedGate.{passedGate};
 
 // Bit k of a word is `word / 2^k % 2`; bit 0 is written like the others.
@@ -42,16 +39,5 @@ pub fn passed_gate(g: Gate) -> Gate
         silenced: g.silenced,
         interrupt: g.interrupt & !clear,
         oneshot: g.oneshot,
-    }
-}
-
-pub fn delivery_of(t: PeerId, v: Vector, e: Entry) -> Delivery
-    ensures { λ r. ⌜ r ≡ deliveryOf t v e ⌝ }
-{
-    Delivery {
-        target: t,
-        vector: v,
-        address: e.low as u64 + 4294967296 * (e.high as u64),
-        payload: e.payload,
     }
 }
