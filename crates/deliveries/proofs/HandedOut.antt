@@ -1,43 +1,58 @@
 -- The lent table while the records are written: the first i of them, and then what the table had.
-use Prim.Native.Nat.{ℕ, suc, _+_, _≤_, _<_, min}
+use Prim.Native.Nat.{ℕ, suc, _+_, _≤_, _<_}
 use mathlib.Core.List.{List, _++_}
-use mathlib.Core.Path.{_≡_, refl, sym, ap, _∙_}
+use mathlib.Core.Path.{_≡_, sym, ap, _∙_}
 use native.Mathlib.Numerals.{add-one}
 use native.Mathlib.Omega.{arith}
-use lib.ListN.{length, getD, take, drop, set, length-append, length-drop, length-take}
-use lib.Seq.{length-take-le, take-suc, drop-cons, set-at, append-snoc}
+use lib.ListN.{length, getD, take, drop, set, length-append, length-drop, List·getD-map}
+use lib.Seq.{length-take-le, take-length, take-suc, drop-cons, set-at, append-snoc, getD-take}
 use Rattle.device.specs.declared.Delivery.{Delivery}
+use Rattle.device.specs.World.{Hub}
+use Rattle.gate.specs.RingOutcome.{sentAt}
 use Rattle.deliveries.specs.declared.Deliveries.{Deliveries}
-use Rattle.deliveries.specs.Listed.{listed, handedOut, noDelivery}
+use Rattle.deliveries.specs.Listed.{listed, handedOut}
+use Rattle.deliveries.proofs.ListedLaws.{counted}
 
-abbrev pub filled : List Delivery → List Delivery → ℕ → List Delivery
-filled records table i = take i records ++ drop i table
+abbrev pub filled : Hub → Deliveries → List Delivery → ℕ → List Delivery
+filled hub d table i = take i (listed hub d) ++ drop i table
 
-module _ (records table : List Delivery) (i : ℕ) where
-  pub length-filled : i ≤ length records → i ≤ length table → length (filled records table i) ≡ length table
-  length-filled few room =
-      let t : length (take i records) ≡ i = length-take-le i records few in
-      length-append (take i records) (drop i table) ∙ rw (t, length-drop) (omega arith)
+-- the record at an index, and one to stand beyond the end of a list
+abbrev pub recordAt : Hub → Deliveries → ℕ → Delivery
+recordAt hub d i = sentAt hub (d .vector) (getD (d .targets) i 0)
 
-  pub filled-next : i < length records → i < length table → set (filled records table i) i (getD records i noDelivery) ≡ filled records table (i + 1)
-  filled-next few room =
-      ap (λ (l : List Delivery). set (take i records ++ l) i (getD records i noDelivery)) (drop-cons table i noDelivery room)
-      ∙ set-at (take i records) (getD table i noDelivery) (drop (suc i) table) (getD records i noDelivery) i (length-take-le i records (omega (arith, few)))
-      ∙ sym (append-snoc (take i records) (getD records i noDelivery) (drop (suc i) table))
-      ∙ rw (add-one, take-suc records i noDelivery few) refl
+abbrev beyond : Hub → Deliveries → Delivery
+beyond hub d = sentAt hub (d .vector) 0
 
-pub count-fits : (d : Deliveries) → d .count ≡ length (listed d) → d .count ≤ length (d .records)
-unfolding listed
-count-fits d e =
-    let m : d .count ≡ min (d .count) (length (d .records)) = e ∙ length-take (d .count) (d .records) in
-    omega arith
+-- what a list that can be handed out has: no count beyond its targets, and room in the table
+pub record Fits (d : Deliveries) (table : List Delivery) : Type 0 where
+  pub few : d .count ≤ length (d .targets)
+  pub room : d .count ≤ length table
 
--- a list that can be handed out: its count is the list's own, within the array and within the table
-pub record Fits (list : Deliveries) (table : List Delivery) : Type 0 where
-  pub counted : list .count ≡ length (listed list)
-  pub few : list .count ≤ length (list .records)
-  pub room : list .count ≤ length table
+module _ (hub : Hub) (d : Deliveries) (table : List Delivery) (ok : Fits d table) where
+  record-at : (i : ℕ) → i < d .count → getD (listed hub d) i (beyond hub d) ≡ recordAt hub d i
+  unfolding listed
+  record-at i l =
+      List·getD-map (sentAt hub (d .vector)) (take (d .count) (d .targets)) i 0
+      ∙ ap (sentAt hub (d .vector)) (getD-take (d .count) (d .targets) i 0 l)
 
-pub filled-all : (d : Deliveries) (table : List Delivery) → d .count ≡ length (listed d) → filled (d .records) table (d .count) ≡ handedOut (listed d) table
-unfolding listed handedOut
-filled-all d table e = ap (λ (k : ℕ). take (d .count) (d .records) ++ drop k table) e
+  taken-length : (i : ℕ) → i ≤ d .count → length (take i (listed hub d)) ≡ i
+  taken-length i l = length-take-le i (listed hub d) (omega (arith, counted hub d (ok .few)))
+
+  pub length-filled : (i : ℕ) → i ≤ d .count → length (filled hub d table i) ≡ length table
+  length-filled i l =
+      let r = ok .room in
+      length-append (take i (listed hub d)) (drop i table) ∙ rw (taken-length i l, length-drop) (omega arith)
+
+  pub filled-next : (i : ℕ) → i < d .count → set (filled hub d table i) i (recordAt hub d i) ≡ filled hub d table (i + 1)
+  filled-next i l =
+      let r = ok .room in
+      let c = counted hub d (ok .few) in
+      ap (λ (rest : List Delivery). set (take i (listed hub d) ++ rest) i (recordAt hub d i)) (drop-cons table i (beyond hub d) (omega arith))
+      ∙ set-at (take i (listed hub d)) (getD table i (beyond hub d)) (drop (suc i) table) (recordAt hub d i) i (taken-length i (omega arith))
+      ∙ sym (append-snoc (take i (listed hub d)) (recordAt hub d i) (drop (suc i) table))
+      ∙ rw (← (record-at i l), add-one, take-suc (listed hub d) i (beyond hub d) (omega arith))
+
+  pub filled-all : filled hub d table (d .count) ≡ handedOut (listed hub d) table
+  unfolding handedOut
+  filled-all =
+      ap (λ (n : ℕ). take n (listed hub d) ++ drop n table) (counted hub d (ok .few)) ∙ rw take-length

@@ -1,3 +1,4 @@
 pub mod ArrayParts
 pub mod HandedOut
+pub mod Lent
 pub mod ListedLaws

@@ -1,71 +1,107 @@
--- Laws of specs/Listed.antt: a delivery more in the list, and the rings at every other id turn by turn.
-use Prim.Native.Nat.{ℕ, zero, suc, _+_, _-_, _≤_, _<_}
+-- Laws of specs/Listed.antt: the list in hubs with the same entries, a delivery more, and the rings at every other id turn by turn.
+use Prim.Native.Nat.{ℕ, zero, suc, _+_, _-_, _≤_, _<_, _^_}
 use mathlib.Core.Bool.{Bool, true, false, cond}
-use mathlib.Core.List.{List, [], _∷_, _++_, append-assoc, append-nil}
-use mathlib.Core.Path.{_≡_, refl, sym, _∙_}
+use mathlib.Core.List.{[], _∷_, _++_, map, append-assoc, append-nil, map-append}
+use mathlib.Core.Path.{_≡_, refl, sym, ap, _∙_}
 use native.Mathlib.Numerals.{add-one}
 use native.Mathlib.Omega.{arith}
 use lib.Dec.{eqb}
-use lib.ListN.{length, set, length-set, length-append}
+use lib.ListN.{length, take, set, length-set, length-append, length-map}
 use lib.Seq.{length-take-le, take-suc-set}
-use Rattle.device.specs.declared.Delivery.{Delivery}
+use Rattle.device.proofs.SizeLaws.{maxPeers-pos}
+use Rattle.device.specs.declared.PeerId.{PeerId}
+use Rattle.device.specs.declared.Vector.{Vector}
 use Rattle.device.specs.Ring.{Rung, rung, rungThen, ring, ringFrom, ringOthers, peerId, vector}
+use Rattle.device.specs.Sizes.{maxPeers}
 use Rattle.device.specs.World.{Hub}
-use Rattle.gate.proofs.RingLaws.{apart, Kept, ring-kept}
-use Rattle.gate.specs.declared.RingOutcome.{RingOutcome}
-use Rattle.gate.specs.declared.RingOutcome.the-variants.{Delivered, Lost}
-use Rattle.gate.specs.RingOutcome.{outcomeList}
+use Rattle.gate.proofs.RingLaws.{SameEntries, sent-same, apart, Kept, none-kept, ring-kept}
+use Rattle.gate.specs.RingOutcome.{sentAt, outcomeList}
 use Rattle.deliveries.specs.declared.Deliveries.{Deliveries}
-use Rattle.deliveries.specs.Listed.{listed, Empty, ringBut}
+use Rattle.deliveries.specs.Listed.{listed, Lists, Empty, ringBut}
 
-pub empty-listed : (d : Deliveries) → Empty d → listed d ≡ []
+-- an id fits a byte of the list
+pub id-fits : (i : ℕ) → i < maxPeers → i < 2 ^ 8
+unfolding maxPeers
+id-fits i l = omega arith
+
+pub none-listed : (hub : Hub) (d : Deliveries) → d .count ≡ 0 → listed hub d ≡ []
 unfolding listed
-empty-listed d e = rw (e .none)
+none-listed hub d e = rw e
 
--- no count beyond the records
-pub counted : (d : Deliveries) → d .count ≤ length (d .records) → d .count ≡ length (listed d)
+-- the length of the list is the count, as long as this is not beyond the targets
+pub counted : (hub : Hub) (d : Deliveries) → d .count ≤ length (d .targets) → d .count ≡ length (listed hub d)
 unfolding listed
-counted d l = sym (length-take-le (d .count) (d .records) l)
+counted hub d l = sym (length-map (take (d .count) (d .targets)) (sentAt hub (d .vector)) ∙ length-take-le (d .count) (d .targets) l)
 
-pub empty-counted : (d : Deliveries) → Empty d → d .count ≡ length (listed d)
-empty-counted d e = counted d (omega arith)
-
-pub single : (records : List Delivery) (d : Delivery) → 0 < length records → listed (record { count = 1; records = set records 0 d }) ≡ d ∷ []
+-- the records are the same in every hub with the same entries
+pub listed-same : (before after : Hub) (d : Deliveries) → SameEntries before after → listed after d ≡ listed before d
 unfolding listed
-single records d l = take-suc-set records 0 d l
+listed-same before after d same = λ k. map (λ t. sent-same before after (d .vector) t same k) (take (d .count) (d .targets))
+
+-- one ring's outcome, listed
+module _ (hub after : Hub) (t : PeerId) (v : Vector) (delivered : Bool) (left : after ≡ ring hub t v .hub)
+    (told : outcomeList hub t v delivered ≡ ring hub t v .deliveries) (d : Deliveries) (e : Empty v d) where
+  ring-lists : (a : Deliveries) → a .count ≤ length (a .targets) → listed hub a ≡ outcomeList hub t v delivered → Lists after a (ring hub t v .deliveries)
+  ring-lists a few all =
+      record {
+        deliveries = rw left (listed-same hub _ a (ring-kept hub t v .entries)) ∙ all ∙ told;
+        count = counted hub a few ∙ ap length (all ∙ told);
+      }
+
+  pub ring-lost : delivered ≡ false → Lists after d (ring hub t v .deliveries)
+  unfolding outcomeList
+  ring-lost is = ring-lists d (omega arith) (rw is (none-listed hub d (e .none)))
+
+  pub ring-sent : delivered ≡ true
+      → Lists after (record { count = 1; vector = d .vector; targets = set (d .targets) 0 (t .0) }) (ring hub t v .deliveries)
+  unfolding outcomeList listed
+  ring-sent is =
+      let some : 0 < length (d .targets) = rw (e .room) maxPeers-pos in
+      ring-lists _ (rw length-set some) (rw (is, e .vector, take-suc-set (d .targets) 0 (t .0) some))
 
 -- a list with one ring's outcome appended
-pub record More (before : Deliveries) (outcome : RingOutcome) (after : Deliveries) : Type 0 where
+pub record More (hub : Hub) (t : ℕ) (before : Deliveries) (delivered : Bool) (after : Deliveries) : Type 0 where
   pub few : after .count ≤ before .count + 1
-  pub room : length (after .records) ≡ length (before .records)
-  pub all : listed after ≡ listed before ++ outcomeList outcome
+  pub vector : after .vector ≡ before .vector
+  pub room : length (after .targets) ≡ length (before .targets)
+  pub all : listed hub after ≡ listed hub before ++ outcomeList hub (peerId t) (before .vector) delivered
 
-pub more-lost : (d : Deliveries) → More d Lost d
+pub more-lost : (hub : Hub) (t : ℕ) (d : Deliveries) → More hub t d false d
 unfolding outcomeList
-more-lost d = record { few = omega arith; room = refl; all = sym (append-nil (listed d)) }
+more-lost hub t d = record { few = omega arith; vector = refl; room = refl; all = sym (append-nil (listed hub d)) }
 
-pub more-delivered : (before : Deliveries) (d : Delivery) → before .count < length (before .records)
-    → More before (Delivered d) (record { count = before .count + 1; records = set (before .records) (before .count) d })
+pub more-delivered : (hub : Hub) (t : ℕ) (before : Deliveries) → before .count < length (before .targets)
+    → More hub t before true
+    (record { count = before .count + 1; vector = before .vector; targets = set (before .targets) (before .count) t })
 unfolding outcomeList listed
-more-delivered before d l =
-    record { few = omega arith; room = simp length-set; all = rw add-one (take-suc-set (before .records) (before .count) d l) }
+more-delivered hub t before l =
+    record {
+      few = omega arith;
+      vector = refl;
+      room = simp length-set;
+      all = rw (add-one, take-suc-set (before .targets) (before .count) t l) (map-append (sentAt hub (before .vector)) (take (before .count) (before .targets)) (t ∷ []));
+    }
 
--- a turn, and all turns, keep the settings and deliver at most one interrupt each
+-- a turn, and all turns, keep settings and entries and deliver at most one interrupt each
 pub but-kept : (who : ℕ) (hub : Hub) (i : ℕ) → Kept hub 1 (ringBut who hub i)
 unfolding ringBut
 but-kept who hub i = either (eqb i who)
   where
     either : (b : Bool) → Kept hub 1 (cond b (rung hub []) (ring hub (peerId i) (vector 0)))
-    either true = record { settings = refl; few = omega arith }
+    either true = none-kept hub 1
     either false = ring-kept hub (peerId i) (vector 0)
 
 then-kept : (hub : Hub) (n : ℕ) (r : Rung) (next : Hub → Rung) → Kept hub 1 r → Kept (r .hub) n (next (r .hub)) → Kept hub (suc n) (rungThen r next)
 then-kept hub n r next one rest =
-    record { settings = rest .settings ∙ one .settings; few = simp length-append (omega arith) }
+    record {
+      settings = rest .settings ∙ one .settings;
+      entries = λ i v. rest .entries i v ∙ one .entries i v;
+      few = simp length-append (omega arith);
+    }
 
 pub from-kept : (n i who : ℕ) (hub : Hub) → Kept hub n (ringFrom n i who hub)
 unfolding ringFrom ringBut
-from-kept zero i who hub = record { settings = refl; few = omega arith }
+from-kept zero i who hub = none-kept hub 0
 from-kept (suc n) i who hub = then-kept hub n (ringBut who hub i) (λ h. ringFrom n (suc i) who h) (but-kept who hub i) (from-kept n (suc i) who _)
 
 pub others-kept : (who : ℕ) (hub : Hub) → Kept hub (hub .settings .peers) (ringOthers who hub)
@@ -74,22 +110,24 @@ others-kept who hub = from-kept (hub .settings .peers) 0 who hub
 
 -- what is listed, followed by what the turns left deliver, is the whole
 abbrev pub Rest : ℕ → ℕ → ℕ → Hub → Deliveries → Rung → Type 0
-Rest who peers i hub d whole = rungThen (rung hub (listed d)) (λ h. ringFrom (peers - i) i who h) ≡ whole
+Rest who peers i hub d whole = rungThen (rung hub (listed hub d)) (λ h. ringFrom (peers - i) i who h) ≡ whole
 
 module _ (who peers : ℕ) (hub : Hub) (d : Deliveries) where
-  pub rest-first : peers ≡ hub .settings .peers → Empty d → Rest who peers 0 hub d (ringOthers who hub)
+  pub rest-first : peers ≡ hub .settings .peers → d .count ≡ 0 → Rest who peers 0 hub d (ringOthers who hub)
   unfolding ringOthers
-  rest-first same e = let z : peers - 0 ≡ hub .settings .peers = omega arith in rw (empty-listed d e, z)
+  rest-first same e = let z : peers - 0 ≡ hub .settings .peers = omega arith in rw (none-listed hub d e, z)
 
-  pub rest-last : (i : ℕ) (whole : Rung) → peers ≤ i → Rest who peers i hub d whole → (hub ≡ whole .hub) × (listed d ≡ whole .deliveries)
+  pub rest-last : (i : ℕ) (whole : Rung) → peers ≤ i → Rest who peers i hub d whole → (hub ≡ whole .hub) × (listed hub d ≡ whole .deliveries)
   unfolding ringFrom
-  rest-last i whole l e = let z : peers - i ≡ 0 = omega arith in apart hub (listed d) (rw (z, append-nil) at e)
+  rest-last i whole l e = let z : peers - i ≡ 0 = omega arith in apart hub (listed hub d) (rw (z, append-nil) at e)
 
   turn : (i : ℕ) → i < peers → ringFrom (peers - i) i who hub ≡ rungThen (ringBut who hub i) (λ h. ringFrom (peers - (i + 1)) (i + 1) who h)
   unfolding ringFrom ringBut
   turn i l = let z : peers - i ≡ suc (peers - (i + 1)) = omega arith in rw (z, add-one)
 
-  pub rest-more : (i : ℕ) (o : RingOutcome) (after : Hub) (a : Deliveries) (whole : Rung) → i < peers
-      → after ≡ ringBut who hub i .hub → outcomeList o ≡ ringBut who hub i .deliveries → More d o a
+  pub rest-more : (i : ℕ) (delivered : Bool) (after : Hub) (a : Deliveries) (whole : Rung) → i < peers → d .vector ≡ vector 0
+      → after ≡ ringBut who hub i .hub → outcomeList hub (peerId i) (vector 0) delivered ≡ ringBut who hub i .deliveries → More hub i d delivered a
       → Rest who peers i hub d whole → Rest who peers (i + 1) after a whole
-  rest-more i o after a whole l eh eo m e = rw (m .all, eh, eo, append-assoc) (rw (turn i l) at e)
+  rest-more i delivered after a whole l v eh eo m e =
+      let all : listed after a ≡ listed hub d ++ ringBut who hub i .deliveries = rw eh (listed-same hub _ a (but-kept who hub i .entries)) ∙ m .all ∙ rw (v, eo) in
+      rw (all, eh, append-assoc) (rw (turn i l) at e)

@@ -1,28 +1,33 @@
--- The list that a by-value list of deliveries is: its first records, as many as its count says. And one turn of the rings at every
--- other id.
+-- The list that a by-value list of deliveries is: a record for each of its first targets, as many as its count says. And one turn
+-- of the rings at every other id.
 use Prim.Native.Nat.{ℕ}
 use mathlib.Core.Bool.{cond}
-use mathlib.Core.List.{List, [], _++_}
+use mathlib.Core.List.{List, [], _++_, map}
 use mathlib.Core.Path.{_≡_}
 use lib.Dec.{eqb}
 use lib.ListN.{length, take, drop}
 use Rattle.device.specs.declared.Delivery.{Delivery}
+use Rattle.device.specs.declared.Vector.{Vector}
 use Rattle.device.specs.Ring.{Rung, rung, ring, peerId, vector}
 use Rattle.device.specs.Sizes.{maxPeers}
 use Rattle.device.specs.World.{Hub}
+use Rattle.gate.specs.RingOutcome.{sentAt}
 use Rattle.deliveries.specs.declared.Deliveries.{Deliveries}
 
--- the element beyond a list's end
-abbrev pub noDelivery : Delivery
-noDelivery = record { target = peerId 0; vector = vector 0; address = 0; payload = 0 }
+-- each record is made from its target's entry, in any hub that has the entries of the one that was rung
+unfoldable pub listed : Hub → Deliveries → List Delivery
+listed hub d = map (sentAt hub (d .vector)) (take (d .count) (d .targets))
 
-unfoldable pub listed : Deliveries → List Delivery
-listed d = take (d .count) (d .records)
+-- a by-value list is these deliveries, and its count is their number
+pub record Lists (hub : Hub) (d : Deliveries) (ds : List Delivery) : Type 0 where
+  pub deliveries : listed hub d ≡ ds
+  pub count : d .count ≡ length ds
 
 -- no delivery, and room for one at each id
-pub record Empty (d : Deliveries) : Type 0 where
+pub record Empty (v : Vector) (d : Deliveries) : Type 0 where
   pub none : d .count ≡ 0
-  pub room : length (d .records) ≡ maxPeers
+  pub vector : d .vector ≡ v
+  pub room : length (d .targets) ≡ maxPeers
 
 -- the sender is not rung
 unfoldable pub ringBut : ℕ → Hub → ℕ → Rung

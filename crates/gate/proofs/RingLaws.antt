@@ -3,7 +3,7 @@
 use Prim.Native.Nat.{ℕ, _≤_, _<_}
 use mathlib.Core.Bool.{Bool, true, false, cond, not, _&&_}
 use mathlib.Core.List.{List, [], _∷_}
-use mathlib.Core.Path.{_≡_, refl, ap, _∙_}
+use mathlib.Core.Path.{_≡_, refl, sym, ap, _∙_}
 use native.Mathlib.Omega.{arith}
 use borrow.Author.Tests.{ltb-true, lt-ltb, eq-eqb}
 use lib.Dec.{eqb, ltb}
@@ -95,6 +95,17 @@ module _ (hub : Hub) (t : PeerId) (v : Vector) where
       by : (b : Bool) → every (tests hub t v) ≡ b → t .0 < hub .settings .peers
       by true f = ltb-true _ _ (every-true (tests hub t v) f 0)
       by false f = let z : _≡_ {A = ℕ} 0 1 = cc in absurd (omega arith)
+
+  -- and one that is delivered
+  pub reached : outcomeList hub t v true ≡ ring hub t v .deliveries → t .0 < hub .settings .peers
+  unfolding outcomeList ring ringAt
+  reached e = by (target hub t v) refl
+    where
+      by : (x : Target) → target hub t v ≡ x → t .0 < hub .settings .peers
+      by (Live gate) f = found gate (sym f)
+      by Nobody f =
+          let n : outcomeList hub t v true ≡ [] = rw f at e in
+          let z : _≡_ {A = ℕ} 0 1 = cc in absurd (omega arith)
 
   -- what a ring leaves: at nobody, and at a gate that is open or not
   pub unanswered : Nobody ≡ target hub t v → rung hub (outcomeList hub t v false) ≡ ring hub t v

@@ -1,16 +1,12 @@
 -- `deliveries::empty` meets its contract: the array has an element for each id.
 use mathlib.Core.Path.{refl}
-use borrow.Author.Needs.{needs}
 use Rattle.device.specs.Sizes.{maxPeers}
 use Rattle.deliveries.proofs.empty.Statement.{statement}
 use Rattle.deliveries.proofs.empty.Tie as tie
 
-nothing-requires : tie.Need-nothing-requires
-nothing-requires c κs = search needs
-
 returns : tie.Need-returns
 unfolding maxPeers
-returns c = record { none = refl; room = refl }
+returns c = record { none = refl; vector = refl; room = refl }
 
 pub empty-spec : {M : Type 1} → statement M
-empty-spec = tie.close (tie.spec nothing-requires returns)
+empty-spec = tie.close (tie.spec returns)

@@ -4,9 +4,9 @@ use native.Mathlib.Omega.{arith}
 use borrow.Author.Needs.{needs}
 use borrow.Author.Tests.{eq-eqb, ne-eqb}
 use Rattle.deliveries.specs.Listed.{ringBut}
-use Rattle.device.proofs.SizeLaws.{maxPeers-small}
 use Rattle.gate.proofs.RingLaws.{peer-below}
 use Rattle.gate.specs.RingOutcome.{outcomeList}
+use Rattle.deliveries.proofs.ListedLaws.{id-fits}
 use Rattle.deliveries.proofs.ring_other.Statement.{statement}
 use Rattle.deliveries.proofs.ring_other.Tie as tie
 
@@ -15,8 +15,7 @@ unfolding ringBut outcomeList
 returns c = rw (eq-eqb _ _ (c .if1 .taken)) (refl, refl)
 
 cast-t7 : tie.Need-cast-t7
-cast-t7 c =
-    omega (arith, maxPeers-small, peer-below (c .before .before .before .args .hub .now) (c .before .before .before .args .i) (c .before .before .before .pre .0) (c .before .before .before .pre .1))
+cast-t7 c = omega (arith, id-fits _ (peer-below (c .before .before .before .args .hub .now) (c .before .before .before .args .i) (c .before .before .before .pre .0) (c .before .before .before .pre .1)))
 
 ring-requires : tie.Need-ring-requires
 ring-requires c κs = search needs

@@ -9,14 +9,14 @@ use borrow.Author.Needs.{needs}
 use Rattle.deliveries.specs.declared.Deliveries.{Deliveries}
 use Rattle.device.proofs.SetUpLaws.{accepted-facts}
 use Rattle.device.proofs.SizeLaws.{maxPeers-small}
-use Rattle.device.specs.Ring.{ringOthers}
+use Rattle.device.specs.Ring.{ringOthers, vector}
 use Rattle.device.specs.Sizes.{maxPeers}
 use Rattle.device.specs.World.{Hub}
 use Rattle.device.specs.declared.Settings.{Settings}
 use Rattle.gate.proofs.RingLaws.{peer-below, usable-kept}
 use Rattle.gate.specs.RingOutcome.{Usable}
 use Rattle.words.specs.Layout.{hubOf}
-use Rattle.deliveries.proofs.ListedLaws.{counted, More, more-lost, more-delivered, but-kept, Rest, rest-first, rest-more, rest-last}
+use Rattle.deliveries.proofs.ListedLaws.{id-fits, counted, More, more-lost, more-delivered, but-kept, Rest, rest-first, rest-more, rest-last}
 use Rattle.deliveries.proofs.ring_others.Statement.{statement}
 use Rattle.deliveries.proofs.ring_others.Tie as tie
 
@@ -26,7 +26,8 @@ record Inv (hub₀ : List ℕ) (who peers : ℕ) (hub : List ℕ) (list : Delive
   same : peers ≡ hubOf hub .settings .peers
   bound : i ≤ peers
   few : list .count ≤ i
-  room : length (list .records) ≡ maxPeers
+  rings : list .vector ≡ vector 0
+  room : length (list .targets) ≡ maxPeers
   rest : Rest who peers i (hubOf hub) list (ringOthers who (hubOf hub₀))
 
 abbrev Inv-loop : tie.InvT-loop
@@ -35,19 +36,20 @@ Inv-loop hub₀ who peers list₀ i₀ hub list i = Inv hub₀ who peers hub lis
 abbrev μ-loop : tie.MeasureT-loop
 μ-loop hub₀ who peers list₀ i₀ hub list i = peers - i
 
--- in a turn there is room for one delivery more
+-- in a turn the id is one of the hub, and there is room for one delivery more
+id-below : (c : tie.In-loop Inv-loop μ-loop) → c .before .loop .i < maxPeers
+id-below c = peer-below (c .before .loop .hub) (c .before .loop .i) (c .before .loop .inv .usable) (omega arith)
+
 count-below : (c : tie.In-loop Inv-loop μ-loop) → c .before .loop .list .count < maxPeers
-count-below c =
-    let l : c .before .loop .i < hubOf (c .before .loop .hub) .settings .peers = omega arith in
-    omega (arith, peer-below (c .before .loop .hub) (c .before .loop .i) (c .before .loop .inv .usable) l)
+count-below c = omega (arith, id-below c)
 
 -- what the turn's ring gave is listed, whichever it was
-more : (c : tie.At-match-came Inv-loop μ-loop) → More (c .before .before .before .before .before .before .loop .list) (c .before .before .before .ring-other .result) (c .match .list)
+more : (c : tie.Joined1 Inv-loop μ-loop) → More (hubOf (c .before .before .before .before .before .before .loop .hub)) (c .before .before .before .before .before .before .loop .i) (c .before .before .before .before .before .before .loop .list) (c .before .before .before .ring-other .result) (c .if1 .list)
 more c =
     ⊎-elim
-    (λ w. rw (w .3, w .1 .given .1) (more-delivered _ _ (rw (c .before .before .before .before .before .before .loop .inv .room) (count-below (c .before .before .before .before .before)))))
-    (λ w. rw (w .2, w .1 .given .1) (more-lost _))
-    (c .match .came)
+    (λ w. rw (w .1, w .0 .taken) (more-delivered _ _ _ (rw (c .before .before .before .before .before .before .loop .inv .room) (count-below (c .before .before .before .before .before)))))
+    (λ w. rw (w .1, w .0 .left) (more-lost _ _ _))
+    (c .if1 .came)
 
 settings-requires : tie.Need-settings-requires Inv-loop μ-loop
 settings-requires c κs = c .before .before .pre .room
@@ -63,30 +65,23 @@ loop-holds c =
       same = ap (λ (s : Settings). s .peers) (c .before .settings .ensures);
       bound = omega arith;
       few = omega arith;
+      rings = c .empty .ensures .vector;
       room = c .empty .ensures .room;
-      rest = rest-first _ _ _ _ (ap (λ (s : Settings). s .peers) (c .before .settings .ensures)) (c .empty .ensures);
+      rest = rest-first _ _ _ _ (ap (λ (s : Settings). s .peers) (c .before .settings .ensures)) (c .empty .ensures .none);
     }
 
 ring-other-requires : tie.Need-ring-other-requires Inv-loop μ-loop
 ring-other-requires c κs = (c .before .before .loop .inv .usable, omega arith)
 
-enum-known-d : tie.Need-enum-known-d Inv-loop μ-loop
-enum-known-d c = search needs
+cast-list : tie.Need-cast-list Inv-loop μ-loop
+cast-list c = omega (arith, id-fits _ (id-below (c .before .before .before .before .before)))
 
-mul-d : tie.Need-mul-d Inv-loop μ-loop
-mul-d c =
-    omega (arith, maxPeers-small, count-below (c .before .before .before .before .before .before .before))
-
-element-set-from-d : tie.Need-element-set-from-d Inv-loop μ-loop
+element-write-list : tie.Need-element-write-list Inv-loop μ-loop
 unfolding maxPeers
-element-set-from-d c = count-below (c .before .before .before .before .before .before .before)
+element-write-list c = count-below (c .before .before .before .before .before)
 
 add-list : tie.Need-add-list Inv-loop μ-loop
-add-list c =
-    omega (arith, maxPeers-small, count-below (c .before .before .before .before .before .before .before))
-
-enum-told : tie.Need-enum-told Inv-loop μ-loop
-enum-told c = search needs
+add-list c = omega (arith, maxPeers-small, count-below (c .before .before .before .before .before))
 
 add-i : tie.Need-add-i Inv-loop μ-loop
 add-i c = omega arith
@@ -103,8 +98,9 @@ loop-again c =
       same = c .before .before .before .before .before .before .loop .inv .same ∙ ap (λ (s : Settings). s .peers) (sym s);
       bound = omega arith;
       few = omega (arith, more c .few);
+      rings = more c .vector ∙ c .before .before .before .before .before .before .loop .inv .rings;
       room = more c .room ∙ c .before .before .before .before .before .before .loop .inv .room;
-      rest = rest-more _ _ _ _ _ _ _ _ _ (c .before .before .before .before .before .loop-test .taken) (c .before .before .before .ring-other .ensures .0) (c .before .before .before .ring-other .ensures .1) (more c) (c .before .before .before .before .before .before .loop .inv .rest);
+      rest = rest-more _ _ _ _ _ _ _ _ _ (c .before .before .before .before .before .loop-test .taken) (c .before .before .before .before .before .before .loop .inv .rings) (c .before .before .before .ring-other .ensures .0) (c .before .before .before .ring-other .ensures .1) (more c) (c .before .before .before .before .before .before .loop .inv .rest);
     }
 
 same-length : tie.Need-same-length Inv-loop μ-loop
@@ -113,7 +109,8 @@ same-length c = c .before .loop .inv .kept
 returns : tie.Need-returns Inv-loop μ-loop
 returns c =
     let r = rest-last _ _ _ _ _ _ (c .loop-test .left) (c .before .loop .inv .rest) in
-    (r .0, (r .1, counted _ (omega (arith, accepted-facts _ (c .before .loop .inv .usable .numbers) .peers))))
+    let few = counted (hubOf (c .before .loop .hub)) (c .before .loop .list) (omega (arith, accepted-facts _ (c .before .loop .inv .usable .numbers) .peers)) in
+    (r .0, record { deliveries = r .1; count = few ∙ ap length (r .1) })
 
 pub ring-others-spec : {M : Type 1} → statement M
 ring-others-spec =
@@ -125,11 +122,9 @@ ring-others-spec =
     empty-requires
     loop-holds
     ring-other-requires
-    enum-known-d
-    mul-d
-    element-set-from-d
+    cast-list
+    element-write-list
     add-list
-    enum-told
     add-i
     loop-less
     loop-again
