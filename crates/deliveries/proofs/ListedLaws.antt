@@ -28,6 +28,9 @@ pub none-listed : (hub : Hub) (d : Deliveries) → d .count ≡ 0 → listed hub
 unfolding listed
 none-listed hub d e = rw e
 
+pub none-lists : (hub : Hub) (d : Deliveries) → d .count ≡ 0 → Lists hub d []
+none-lists hub d e = record { deliveries = none-listed hub d e; count = e }
+
 -- the length of the list is the count, as long as this is not beyond the targets
 pub counted : (hub : Hub) (d : Deliveries) → d .count ≤ length (d .targets) → d .count ≡ length (listed hub d)
 unfolding listed

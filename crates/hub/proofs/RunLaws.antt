@@ -22,7 +22,8 @@ use Rattle.device.specs.World.{Hub, Slot, world, withSlot}
 use Rattle.device.proofs.SetUpLaws.{accepted-facts}
 use Rattle.device.proofs.StepLaws.{accepted-effect}
 use Rattle.deliveries.specs.declared.Deliveries.{Deliveries}
-use Rattle.deliveries.specs.Listed.{listed}
+use Rattle.deliveries.specs.Listed.{Lists}
+use Rattle.deliveries.proofs.ListedLaws.{none-lists}
 use Rattle.words.specs.Layout.{hubOf}
 use Rattle.hub.specs.declared.Served.{Served}
 use Rattle.hub.specs.Admission.{bothLent, Admitted, Ready}
@@ -51,46 +52,43 @@ ready-kept ws after region id slot r n e =
       state = r .state;
     }
 
-module _ (ws after region : List ℕ) (id : ℕ) (d : Deliveries) (count : d .count ≡ length (listed d)) where
-  pub runs-nothing : hubOf after ≡ hubOf ws → listed d ≡ [] → Runs ws after region region id [] d
+module _ (ws after region : List ℕ) (id : ℕ) (d : Deliveries) where
+  pub runs-nothing : hubOf after ≡ hubOf ws → d .count ≡ 0 → Runs ws after region region id [] d
   unfolding runAll
-  runs-nothing e none = record { left = ap (λ (h : Hub). world h region) e; deliveries = none; count = count }
+  runs-nothing e none = record { left = ap (λ (h : Hub). world h region) e; list = none-lists _ d none }
 
-  pub runs-own : (slot : Slot) → hubOf after ≡ withSlot (hubOf ws) id slot → listed d ≡ [] →
+  pub runs-own : (slot : Slot) → hubOf after ≡ withSlot (hubOf ws) id slot → d .count ≡ 0 →
       Runs ws after region region id (Operation.own slot ∷ []) d
   unfolding runAll run
-  runs-own slot e none = record { left = ap (λ (h : Hub). world h region) e; deliveries = none; count = count }
+  runs-own slot e none = record { left = ap (λ (h : Hub). world h region) e; list = none-lists _ d none }
 
   pub runs-ring : (t : PeerId) (v : Vector) → hubOf after ≡ Ring.ring (hubOf ws) t v .hub →
-      listed d ≡ Ring.ring (hubOf ws) t v .deliveries → Runs ws after region region id (Operation.ringOne t v ∷ []) d
+      Lists (hubOf after) d (Ring.ring (hubOf ws) t v .deliveries) → Runs ws after region region id (Operation.ringOne t v ∷ []) d
   unfolding runAll run
-  runs-ring t v e ds =
-      record { left = ap (λ (h : Hub). world h region) e; deliveries = ds ∙ sym (append-nil _); count = count }
+  runs-ring t v e list = record { left = ap (λ (h : Hub). world h region) e; list = rw append-nil list }
 
   pub runs-announce : (after′ vs : List ℕ) → after′ ≡ sets region (4 * id) vs → hubOf after ≡ Ring.ringOthers id (hubOf ws) .hub →
-      listed d ≡ Ring.ringOthers id (hubOf ws) .deliveries →
+      Lists (hubOf after) d (Ring.ringOthers id (hubOf ws) .deliveries) →
       Runs ws after region after′ id (Operation.write (4 * id) vs ∷ Operation.ringOthers ∷ []) d
   unfolding runAll run
-  runs-announce after′ vs s e ds =
-      record { left = ap₂ (λ (h : Hub) (l : List ℕ). world h l) e s; deliveries = ds ∙ sym (append-nil _); count = count }
+  runs-announce after′ vs s e list =
+      record { left = ap₂ (λ (h : Hub) (l : List ℕ). world h l) e s; list = rw append-nil list }
 
 -- the own slot first, then the rest
 pub runs-own-then : (ws mid after region after′ : List ℕ) (id : ℕ) (slot : Slot) (os : List Operation) (d : Deliveries) →
     hubOf mid ≡ withSlot (hubOf ws) id slot → Runs mid after region after′ id os d →
     Runs ws after region after′ id (Operation.own slot ∷ os) d
 unfolding runAll run
-runs-own-then ws mid after region after′ id slot os d e r =
-    record { left = rw e at (r .left); deliveries = rw e at (r .deliveries); count = r .count }
+runs-own-then ws mid after region after′ id slot os d e r = record { left = rw e at (r .left); list = rw e at (r .list) }
 
 pub serves-refused : (ws region : List ℕ) (c : Call) (n : ℕ) (r : Served) → refusal (world (hubOf ws) region) c ≡ n → (n ≡ 0 → ⊥) →
-    r .reply ≡ refusedBy n → listed (r .list) ≡ [] → r .list .count ≡ length (listed (r .list)) → Serves ws ws region region c r
-serves-refused ws region c n r e some a none count =
+    r .reply ≡ refusedBy n → r .list .count ≡ 0 → Serves ws ws region region c r
+serves-refused ws region c n r e some a none =
     let s = step-refused (world (hubOf ws) region) c n e some in
     record {
       reply = a ∙ reply-refused _ c n e some;
       left = sym (ap (λ (o : Outcome). o .world) s);
-      deliveries = none ∙ sym (ap (λ (o : Outcome). o .deliveries) s);
-      count = count;
+      list = rw s (none-lists (hubOf ws) (r .list) none);
       kept = λ p. refl;
     }
 
@@ -103,8 +101,7 @@ serves-accepted ws after region after′ c r e value a runs =
     record {
       reply = a ∙ reply-accepted _ c 0 e value;
       left = runs .left ∙ sym (ap (λ (o : Outcome). o .world) s);
-      deliveries = runs .deliveries ∙ sym (ap (λ (o : Outcome). o .deliveries) s);
-      count = runs .count;
+      list = rw s (runs .list);
       kept = λ p. absurd (p (ap (λ (x : Reply). x .number) a));
     }
 

@@ -14,7 +14,7 @@ use Rattle.device.specs.SetUp.{setUpRefusal, hubAfterSetUp, regionAfterSetUp}
 use Rattle.device.specs.Step.{runAll, step, replyOf, sectionReplyOf}
 use Rattle.device.specs.World.{Slot, resetSlot, world}
 use Rattle.deliveries.specs.declared.Deliveries.{Deliveries}
-use Rattle.deliveries.specs.Listed.{listed}
+use Rattle.deliveries.specs.Listed.{Lists}
 use Rattle.hub.specs.declared.Served.{Served}
 use Rattle.words.specs.Layout.{hubWords, hubOf}
 
@@ -69,16 +69,15 @@ pub record SetsUp (before after regionBefore regionAfter : List ℕ) (s : Settin
 -- Operations run on the hub and the region: what they leave, and their deliveries in order.
 pub record Runs (hub after region regionAfter : List ℕ) (id : ℕ) (operations : List Operation) (d : Deliveries) : Type 0 where
   pub left : world (hubOf after) regionAfter ≡ runAll id (world (hubOf hub) region) operations .world
-  pub deliveries : listed d ≡ runAll id (world (hubOf hub) region) operations .deliveries
-  pub count : d .count ≡ length (listed d)
+  pub list : Lists (hubOf after) d (runAll id (world (hubOf hub) region) operations .deliveries)
 
 -- A call that is lent the region and a delivery table, whose length is among the call's arguments: hub and region afterwards are
--- the step's, the deliveries are the step's in order and their count is their number, and a refusal leaves each word as it was.
+-- the step's, the list is the step's deliveries in order, its records made from the hub afterwards, and a refusal leaves each word
+-- as it was.
 pub record Serves (hub after region regionAfter : List ℕ) (c : Call) (r : Served) : Type 0 where
   pub reply : r .reply ≡ replyOf (step (world (hubOf hub) region) c)
   pub left : world (hubOf after) regionAfter ≡ step (world (hubOf hub) region) c .world
-  pub deliveries : listed (r .list) ≡ step (world (hubOf hub) region) c .deliveries
-  pub count : r .list .count ≡ length (listed (r .list))
+  pub list : Lists (hubOf after) (r .list) (step (world (hubOf hub) region) c .deliveries)
   pub kept : (r .reply .number ≡ 0 → ⊥) → after ≡ hub
 
 -- Reset and disconnect are one call but for what the peer is afterwards: the promise for each call that is lent the same, reaches

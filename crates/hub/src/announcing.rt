@@ -4,8 +4,7 @@ use super::refusals;
 use deliveries::Deliveries;
 ghost use mathlib.Core.Path.{_≡_};
 ghost use mathlib.Core.List.{[], _∷_};
-ghost use Prim.Native.Nat.{_+_, _*_, _≤_, _<_};
-ghost use lib.ListN.{length};
+ghost use Prim.Native.Nat.{_*_};
 ghost use Rattle.common.specs.Bytes.{bytes};
 ghost use Rattle.device.specs.Call.{call};
 ghost use Rattle.device.specs.Call;
@@ -13,7 +12,6 @@ ghost use Rattle.device.specs.Effect.{announces, registerStored};
 ghost use Rattle.device.specs.Effect;
 ghost use Rattle.device.specs.Registers.{registerAt};
 ghost use Rattle.device.specs.World.{slotAt, resetSlot};
-ghost use Rattle.deliveries.specs.Listed.{listed};
 ghost use Rattle.words.specs.Layout.{hubOf};
 ghost use Rattle.hub.specs.Admission.{Ready};
 ghost use Rattle.hub.specs.Promises.{Restarts, Runs, Serves};
@@ -21,8 +19,7 @@ ghost use Rattle.hub.specs.Promises.{Restarts, Runs, Serves};
 // An answer without deliveries.
 fn silent(number: u32) -> Served
     ensures reply { λ r. ⌜ r .reply ≡ record { number = number; value = 0 } ⌝ }
-    ensures deliveries { λ r. ⌜ listed (r .list) ≡ [] ⌝ }
-    ensures count { λ r. ⌜ r .list .count ≡ length (listed (r .list)) ⌝ }
+    ensures deliveries { λ r. ⌜ r .list .count ≡ 0 ⌝ }
 {
     let reply = refusals::answered(number);
     let list = deliveries::none();

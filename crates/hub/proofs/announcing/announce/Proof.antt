@@ -19,7 +19,7 @@ same-length-2 c = search needs
 returns : tie.Need-returns
 returns c =
     let a = c .before .before .before .before .before .before .before .before .before .before .args in
-    runs-announce (a .hub .now) _ (a .region .now) (a .id) _ (c .before .before .ring-others .ensures .1 .1) _ _ (c .before .before .before .before .before .before .put-state .ensures) (c .before .before .ring-others .ensures .0) (c .before .before .ring-others .ensures .1 .0)
+    runs-announce (a .hub .now) _ (a .region .now) (a .id) _ _ _ (c .before .before .before .before .before .before .put-state .ensures) (c .before .before .ring-others .ensures .0) (c .before .before .ring-others .ensures .1)
 
 pub announce-spec : {M : Type 1} → statement M
 announce-spec =

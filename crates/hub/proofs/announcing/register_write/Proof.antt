@@ -28,7 +28,7 @@ returns c =
     let n = rw (c .before .before .before .before .both-lent .ensures) at (c .before .before .space-refusal .ensures .0) in
     serves-refused (a .hub .now) (a .region .now) _ (c .before .before .space-refusal .result) _
     (register-write-refusal (hubOf (a .hub .now)) (a .region .now) (a .id) (a .records) (a .offset) (a .width) (a .value) ∙ sym n)
-    (c .before .if1 .taken) (c .silent .ensures .0) (c .silent .ensures .1 .0) (c .silent .ensures .1 .1)
+    (c .before .if1 .taken) (c .silent .ensures .0) (c .silent .ensures .1)
 
 peer-requires : tie.Need-peer-requires
 peer-requires c κs =
@@ -53,7 +53,7 @@ returns-2 c =
     serves-accepted (a .hub .now) _ (a .region .now) _ _ _
     (register-write-refusal (hubOf (a .hub .now)) (a .region .now) (a .id) (a .records) (a .offset) (a .width) (a .value) ∙ sym n ∙ c .before .before .before .before .before .if1 .left)
     refl (c .silent2 .ensures .0)
-    (rw off (runs-nothing (a .hub .now) _ (a .region .now) (a .id) _ (c .silent2 .ensures .1 .1) refl (c .silent2 .ensures .1 .0)))
+    (rw off (runs-nothing (a .hub .now) _ (a .region .now) (a .id) _ refl (c .silent2 .ensures .1)))
 
 store-register-requires : tie.Need-store-register-requires
 store-register-requires c κs =

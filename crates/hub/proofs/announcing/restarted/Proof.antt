@@ -27,7 +27,7 @@ returns c =
     λ act lent access is.
     serves-refused (a .hub .now) (a .region .now) _ (c .before .before .admitted .result) _
     (served-refusal (hubOf (a .hub .now)) (a .region .now) (a .id) (a .records) act lent access ∙ sym n)
-    (c .before .if1 .taken) (c .silent .ensures .0) (c .silent .ensures .1 .0) (c .silent .ensures .1 .1)
+    (c .before .if1 .taken) (c .silent .ensures .0) (c .silent .ensures .1)
 
 restart-requires : tie.Need-restart-requires
 restart-requires c κs =

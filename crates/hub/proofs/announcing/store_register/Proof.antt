@@ -57,8 +57,8 @@ returns c =
     let a = c .before .before .before .before .before .before .before .before .before .before .before .args in
     let s = slotAt (hubOf (a .hub .now)) (a .id) in
     rw (c .before .before .before .before .before .before .match .keys1)
-    (runs-own (a .hub .now) _ (a .region .now) (a .id) _ (c .none .ensures .1) (withPeer s (withInterrupt (s .peer) (bitAnd (a .value) 1)))
-    (rw (c .before .before .before .put-peer .ensures, c .before .before .before .before .with-interrupt .ensures, c .before .before .before .before .before .before .before .peer .ensures)) (c .none .ensures .0))
+    (runs-own (a .hub .now) _ (a .region .now) (a .id) _ (withPeer s (withInterrupt (s .peer) (bitAnd (a .value) 1)))
+    (rw (c .before .before .before .put-peer .ensures, c .before .before .before .before .with-interrupt .ensures, c .before .before .before .before .before .before .before .peer .ensures)) (c .none .ensures))
 
 same-length-2 : tie.Need-same-length-2
 same-length-2 c = search needs
@@ -68,9 +68,9 @@ unfolding registerStored registerAt
 returns-2 c =
     let a = c .before .before .before .before .before .before .before .before .before .before .before .args in
     rw (c .before .before .before .before .before .before .match .keys2)
-    (runs-ring (a .hub .now) _ (a .region .now) (a .id) _ (c .before .before .ring-one .ensures .1 .1) (rungPeer (a .value)) (rungVector (a .value))
+    (runs-ring (a .hub .now) _ (a .region .now) (a .id) _ (rungPeer (a .value)) (rungVector (a .value))
     (rw (← (c .before .before .before .before .rung-peer .ensures), ← (c .before .before .before .rung-vector .ensures)) (c .before .before .ring-one .ensures .0))
-    (rw (← (c .before .before .before .before .rung-peer .ensures), ← (c .before .before .before .rung-vector .ensures)) (c .before .before .ring-one .ensures .1 .0)))
+    (rw (← (c .before .before .before .before .rung-peer .ensures), ← (c .before .before .before .rung-vector .ensures)) (c .before .before .ring-one .ensures .1)))
 
 same-length-3 : tie.Need-same-length-3
 same-length-3 c = search needs
@@ -95,7 +95,7 @@ returns-4 : tie.Need-returns-4
 returns-4 c =
     let a = c .before .before .before .before .before .before .args in
     rw (nothing-stored (a .id) (slotAt (hubOf (a .hub .now)) (a .id)) (a .offset) (a .value) (c .before .match .rest .0 .0 .1) (c .before .match .rest .0 .1) (c .before .match .rest .1))
-    (runs-nothing (a .hub .now) _ (a .region .now) (a .id) _ (c .none2 .ensures .1) refl (c .none2 .ensures .0))
+    (runs-nothing (a .hub .now) _ (a .region .now) (a .id) _ refl (c .none2 .ensures))
 
 pub store-register-spec : {M : Type 1} → statement M
 store-register-spec =
