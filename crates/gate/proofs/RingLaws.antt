@@ -21,24 +21,23 @@ use Rattle.device.specs.declared.Target.the-variants.{Live, Nobody}
 use Rattle.device.specs.declared.Vector.{Vector}
 use Rattle.device.specs.Ring.{Rung, rung, gateOf, opens, target, withInterrupt, afterDelivery, ringAt, ring}
 use Rattle.device.specs.SetUp.{accepted}
-use Rattle.device.specs.Sizes.{maxPeers, maxVectors}
+use Rattle.device.specs.Sizes.{maxPeers}
 use Rattle.device.specs.World.{Hub, Slot, zeroSlot, slotAt, entryAt, withSlot, withPeer}
+use Rattle.words.proofs.LayoutLaws.{accepted-fits}
 use Rattle.words.proofs.SlotLaws.{slot-kept}
-use Rattle.words.specs.Layout.{hubOf}
+use Rattle.words.specs.Layout.{fits, hubOf}
 use Rattle.gate.specs.PassedGate.{passedGate}
 use Rattle.gate.specs.RingOutcome.{sentAt, outcomeList, Usable, disarmed}
 
--- ids and vectors of a usable hub are those of its words
+-- ids of a usable hub are few, and its words fit
 pub peer-below : (ws : List ℕ) (i : ℕ) → Usable ws → i < hubOf ws .settings .peers → i < maxPeers
 peer-below ws i u l = omega (arith, accepted-facts _ (u .numbers) .peers)
 
-pub vector-below : (ws : List ℕ) (v : ℕ) → Usable ws → v < hubOf ws .settings .vectors → v < maxVectors
-vector-below ws v u l = omega (arith, accepted-facts _ (u .numbers) .vectors)
+pub usable-fits : (ws : List ℕ) → Usable ws → fits ws ≡ true
+usable-fits ws u = accepted-fits ws (u .numbers)
 
-pub usable-kept : (before after : List ℕ) → Usable before → length after ≡ length before
-    → hubOf after .settings ≡ hubOf before .settings → Usable after
-usable-kept before after u size same =
-    record { room = size ∙ u .room; numbers = ap (λ (s : Settings). accepted s) same ∙ u .numbers }
+pub usable-kept : (before after : List ℕ) → Usable before → hubOf after .settings ≡ hubOf before .settings → Usable after
+usable-kept before after u same = record { numbers = ap (λ (s : Settings). accepted s) same ∙ u .numbers }
 
 -- a ring's two parts
 pub apart : (hub : Hub) (ds : List Delivery) {r : Rung} → rung hub ds ≡ r → (hub ≡ r .hub) × (ds ≡ r .deliveries)

@@ -2,7 +2,6 @@
 use mathlib.Core.Bool.{Bool, true, cond}
 use mathlib.Core.List.{List, [], _∷_}
 use mathlib.Core.Path.{_≡_}
-use lib.ListN.{length}
 use Prim.Native.Nat.{ℕ}
 use Rattle.device.specs.declared.Delivery.{Delivery}
 use Rattle.device.specs.declared.PeerId.{PeerId}
@@ -10,7 +9,7 @@ use Rattle.device.specs.declared.Vector.{Vector}
 use Rattle.device.specs.Ring.{peerId, deliveryOf, withInterrupt}
 use Rattle.device.specs.SetUp.{accepted}
 use Rattle.device.specs.World.{Hub, slotAt, entryAt, withSlot, withPeer}
-use Rattle.words.specs.Layout.{hubWords, hubOf}
+use Rattle.words.specs.Layout.{hubOf}
 
 -- the delivery of a vector at an id, from the target's entry
 unfoldable pub sentAt : Hub → Vector → ℕ → Delivery
@@ -22,7 +21,6 @@ outcomeList hub t v delivered = cond delivered (sentAt hub v (t .0) ∷ []) []
 
 -- words that are a hub with accepted settings
 pub record Usable (ws : List ℕ) : Type 0 where
-  pub room : length ws ≡ hubWords
   pub numbers : accepted (hubOf ws .settings) ≡ true
 
 -- a hub with Interrupt Control 0 at one id

@@ -5,17 +5,13 @@ use device::Target;
 use device::Vector;
 ghost use mathlib.Core.Bool.{cond};
 ghost use mathlib.Core.Path.{_≡_};
-ghost use Prim.Native.Nat.{_<_};
-ghost use lib.ListN.{length};
 ghost use Rattle.device.specs.Ring;
-ghost use Rattle.device.specs.Sizes.{maxPeers, maxVectors};
 ghost use Rattle.device.specs.World.{slotAt, entryAt};
-ghost use Rattle.words.specs.Layout.{hubWords, hubOf};
+ghost use Rattle.words.specs.Layout.{hubOf, Known, KnownVector};
 ghost use Rattle.gate.specs.RingOutcome.{outcomeList, Usable, disarmed};
 
 fn entry_of(hub: &[u32], t: PeerId, v: Vector) -> Entry
-    requires room { ⌜ length (now hub) ≡ hubWords ⌝ }
-    requires known { ⌜ (t .0 < maxPeers) × (v .0 < maxVectors) ⌝ }
+    requires { ⌜ Known (now hub) (t .0) × KnownVector (now hub) (v .0) ⌝ }
     ensures { λ r. ⌜ r ≡ entryAt (slotAt (hubOf (now (hub .entry))) (t .0)) (v .0) ⌝ }
 {
     words::entry(hub, t.0 as usize, v.0 as usize)
@@ -42,8 +38,7 @@ fn target(hub: &[u32], t: PeerId, v: Vector) -> Target
 
 // Interrupt Control becomes 0 where a delivery was made in one-shot mode.
 fn disarm(hub: &mut [u32], t: PeerId, clear: bool)
-    requires room { ⌜ length (now hub) ≡ hubWords ⌝ }
-    requires known { ⌜ t .0 < maxPeers ⌝ }
+    requires { ⌜ Known (now hub) (t .0) ⌝ }
     ensures { λ r. ⌜ hubOf (now (hub .exit)) ≡ cond clear (disarmed (hubOf (now (hub .entry))) (t .0)) (hubOf (now (hub .entry))) ⌝ }
 {
     if !clear {

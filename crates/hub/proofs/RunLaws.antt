@@ -37,8 +37,8 @@ ready ws region records id a =
     let f = accepted-facts (hubOf ws .settings) (a .numbers) in
     let t : length region ≡ total (hubOf ws .settings) = a .region refl in
     record {
-      usable = record { room = a .room; numbers = a .numbers };
-      slot = a .slot;
+      usable = record { numbers = a .numbers };
+      known = a .known;
       state = omega (arith, a .known, f .state, t);
     }
 
@@ -47,8 +47,8 @@ pub ready-kept : (ws after region : List ℕ) (id : ℕ) (slot : Slot) → Ready
     hubOf after ≡ withSlot (hubOf ws) id slot → Ready after region id
 ready-kept ws after region id slot r n e =
     record {
-      usable = record { room = n ∙ r .usable .room; numbers = rw e (r .usable .numbers) };
-      slot = r .slot;
+      usable = record { numbers = rw e (r .usable .numbers) };
+      known = rw e (r .known);
       state = r .state;
     }
 

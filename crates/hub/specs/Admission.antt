@@ -10,10 +10,9 @@ use Rattle.common.specs.Tests.{Row, row}
 use Rattle.device.specs.declared.Settings.{Settings}
 use Rattle.device.specs.Sections.{sectionOf, somewhere, mayStore}
 use Rattle.device.specs.SetUp.{accepted, total}
-use Rattle.device.specs.Sizes.{maxPeers}
 use Rattle.device.specs.Sound.{sound}
 use Rattle.device.specs.World.{Hub, slotAt}
-use Rattle.words.specs.Layout.{hubWords, hubOf}
+use Rattle.words.specs.Layout.{hubWords, fits, hubOf, Known}
 use Rattle.gate.specs.RingOutcome.{Usable}
 use Rattle.hub.specs.declared.Lending.{Lending}
 
@@ -62,10 +61,9 @@ storeRows s who offset size = row 9 (not (mayStore who (sectionOf s offset size)
 
 -- what is known of a caller that these checks let pass, and of its access to a space
 pub record Admitted (ws : List ℕ) (lent : Lending) (id : ℕ) : Type 0 where
-  pub room : length ws ≡ hubWords
+  pub room : fits ws ≡ true
   pub numbers : accepted (hubOf ws .settings) ≡ true
-  pub known : id < hubOf ws .settings .peers
-  pub slot : id < maxPeers
+  pub known : Known ws id
   pub region : lent .regional ≡ true → lent .region ≡ total (hubOf ws .settings)
 
 pub record Inside (size : ℕ) (allowed : Bool) (at w : ℕ) : Type 0 where
@@ -78,11 +76,11 @@ pub record InSection (s : Settings) (offset size : ℕ) : Type 0 where
 
 -- what is known of a set-up that is accepted
 pub record SetUpFacts (words : ℕ) (s : Settings) : Type 0 where
-  pub room : words ≡ hubWords
   pub numbers : accepted s ≡ true
+  pub room : words ≡ hubWords (s .peers) (s .vectors)
 
 -- a hub and a region on which a peer's call can be carried out
 pub record Ready (ws region : List ℕ) (id : ℕ) : Type 0 where
   pub usable : Usable ws
-  pub slot : id < maxPeers
+  pub known : Known ws id
   pub state : 4 * id + 4 ≤ length region

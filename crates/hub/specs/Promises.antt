@@ -57,14 +57,13 @@ numbers n v s r o base protocol vendor subsystem =
       subsystem = subsystem;
     }
 
--- Set-up. Refused for its numbers or the region's length it leaves all words zero; refused for the words' own length it leaves
--- them as they were.
+-- Set-up, in words as many as its numbers ask for. Every refusal leaves all words zero: words of another length could hold a sound
+-- hub of another size.
 pub record SetsUp (before after regionBefore regionAfter : List ℕ) (s : Settings) (r : Reply) : Type 0 where
-  pub reply : r ≡ record { number = setUpRefusal (eqb (length before) hubWords) s regionBefore; value = 0 }
+  pub reply : r ≡ record { number = setUpRefusal (eqb (length before) (hubWords (s .peers) (s .vectors))) s regionBefore; value = 0 }
   pub hub : hubOf after ≡ hubAfterSetUp (r .number) s
   pub region : regionAfter ≡ regionAfterSetUp (r .number) regionBefore
-  pub zero : (r .number ≡ 0 → ⊥) → (r .number ≡ 10 → ⊥) → after ≡ replicate (length before) 0
-  pub kept : r .number ≡ 10 → after ≡ before
+  pub zero : (r .number ≡ 0 → ⊥) → after ≡ replicate (length before) 0
 
 -- Operations run on the hub and the region: what they leave, and their deliveries in order.
 pub record Runs (hub after region regionAfter : List ℕ) (id : ℕ) (operations : List Operation) (d : Deliveries) : Type 0 where
@@ -85,5 +84,5 @@ pub record Serves (hub after region regionAfter : List ℕ) (c : Call) (r : Serv
 abbrev pub Restarts : List ℕ → List ℕ → List ℕ → List ℕ → ℕ → ℕ → ℕ → Served → Type 0
 Restarts hub after region regionAfter records id connected r =
     (act : Act) → lentTo act ≡ Lent.regionAndTable records → accessOf act ≡ Access.none →
-    ((s : Settings) (who : ℕ) (slot : Slot) (bytes : List ℕ) → effect s who slot bytes act ≡ does (announces who (resetSlot connected))) →
+    ((s : Settings) (who : ℕ) (slot : Slot) (bytes : List ℕ) → effect s who slot bytes act ≡ does (announces who (resetSlot (s .vectors) connected))) →
     Serves hub after region regionAfter (call id act) r

@@ -45,7 +45,7 @@ fn announce(hub: &mut [u32], region: &mut [u8], id: u64, state: u32) -> Deliveri
 // The peer's registers and entries take their reset values, and its State is 0: reset (1) and disconnect (0).
 fn restart(hub: &mut [u32], region: &mut [u8], id: u64, connected: u32) -> Deliveries
     requires { ⌜ Ready (now hub) (now region) id ⌝ }
-    ensures { λ r. ⌜ Runs (now (hub .entry)) (now (hub .exit)) (now (region .entry)) (now (region .exit)) id (announces id (resetSlot connected)) r ⌝ }
+    ensures { λ r. ⌜ Runs (now (hub .entry)) (now (hub .exit)) (now (region .entry)) (now (region .exit)) id (announces id (resetSlot (hubOf (now (hub .entry)) .settings .vectors) connected)) r ⌝ }
 {
     words::put_reset(hub, id as usize, connected);
     announce(hub, region, id, 0)

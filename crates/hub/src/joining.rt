@@ -13,17 +13,17 @@ ghost use Rattle.words.specs.Layout.{hubWords, hubOf};
 ghost use Rattle.hub.specs.Admission.{nothingLent, joiningRows, Admitted, SetUpFacts};
 ghost use Rattle.hub.specs.Promises.{Changes, numbers, SetsUp};
 
-// 10, 1 and 2 for a set-up: the words' length, the numbers, the region's length.
+// 1, 10 and 2 for a set-up: the numbers, the words' length that they ask for, the region's length.
 fn set_up_refusal(words: usize, s: Settings, region: &[u8]) -> u32
-    ensures is { λ r. ⌜ r ≡ setUpRefusal (eqb words hubWords) s (now (region .entry)) ⌝ }
+    ensures is { λ r. ⌜ r ≡ setUpRefusal (eqb words (hubWords (s .peers) (s .vectors))) s (now (region .entry)) ⌝ }
     ensures facts { λ r. ⌜ (r ≡ 0 → SetUpFacts words s) ⌝ }
 {
-    if words != words::hub_words() {
-        return 10;
-    }
     let numbers = soundness::accepted(s);
     if !numbers {
         return 1;
+    }
+    if words != words::hub_words(s.peers as usize, s.vectors as usize) {
+        return 10;
     }
     if region.len() as u64 != soundness::total(s) {
         return 2;
@@ -31,14 +31,11 @@ fn set_up_refusal(words: usize, s: Settings, region: &[u8]) -> u32
     0
 }
 
-// Words of the right length are all zero after a refusal, and the region is as it was.
+// After a refusal all words are zero, and the region is as it was.
 fn set_up_with(hub: &mut [u32], region: &mut [u8], s: Settings) -> Reply
     ensures { λ r. ⌜ SetsUp (now (hub .entry)) (now (hub .exit)) (now (region .entry)) (now (region .exit)) s r ⌝ }
 {
     let number = set_up_refusal(hub.len(), s, region);
-    if number == 10 {
-        return refusals::answered(10);
-    }
     if number != 0 {
         words::put_zero(hub);
         return refusals::answered(number);

@@ -21,7 +21,7 @@ use Rattle.device.specs.declared.Settings.{Settings}
 use Rattle.device.specs.SetUp.{accepted}
 use Rattle.device.specs.Sizes.{maxPeers, maxVectors}
 use Rattle.device.specs.World.{Hub, Slot, zeroSlot, zeroEntry, zeroHub, slotAt, entryAt, withSlot, withPeer, withEntry}
-use Rattle.words.specs.Layout.{hubWords, word, settingsOf, peerStart, peerOf, entryStart, entryOf, slotOf, decoded, fits, hubOf, Known, Storable}
+use Rattle.words.specs.Layout.{hubWords, word, settingsOf, peerStart, peerOf, entryStart, entryOf, slotOf, decoded, fits, hubOf, Known, KnownVector, Storable}
 use Rattle.words.specs.Parts.{settingsWords, peerFrom, entryFrom, Copied}
 use Rattle.words.proofs.IndexLaws.{EntryPlace, entries-small, entry-place, entry-apart}
 use Rattle.words.proofs.PartLaws.{copied-at}
@@ -150,6 +150,22 @@ unfolding slotOf
 entries-length ws i h =
     let z = known-sized ws i h in
     rw (vectors-at z, slot-at z i (rw (peers-at z) at h)) (length-tabulate (word ws 1) _)
+
+-- beyond the last peer, and beyond the last vector, there is no entry
+pub no-entry : (ws : List ℕ) (i v : ℕ) → (Known ws i → KnownVector ws v → ⊥) → zeroEntry ≡ entryAt (slotAt (hubOf ws) i) v
+unfolding zeroSlot
+no-entry ws i v none = by (ltb i (hubOf ws .settings .peers)) refl
+  where
+    within : Known ws i → (t : Bool) → ltb v (hubOf ws .settings .vectors) ≡ t → zeroEntry ≡ entryAt (slotAt (hubOf ws) i) v
+    within known true e = absurd (none known (ltb-true _ _ e))
+    within known false e =
+        sym (List·getD-eq-default (slotAt (hubOf ws) i .entries) zeroEntry {n = v} (rw (entries-length ws i known) (ltb-false _ _ e)))
+
+    by : (t : Bool) → ltb i (hubOf ws .settings .peers) ≡ t → zeroEntry ≡ entryAt (slotAt (hubOf ws) i) v
+    by true e = within (ltb-true _ _ e) (ltb v (hubOf ws .settings .vectors)) refl
+    by false e =
+        let beyond : slotAt (hubOf ws) i ≡ zeroSlot = List·getD-eq-default (hubOf ws .slots) zeroSlot {n = i} (rw slots-length (ltb-false _ _ e)) in
+        sym (ap (λ (s : Slot). entryAt s v) beyond)
 
 -- the words of a part, as a store of the part writes them
 abbrev pub peerWords : Peer → List ℕ

@@ -30,10 +30,14 @@ pub fn entry(hub: &[u32], i: usize, v: usize) -> Entry
 pub fn entry_at(hub: &[u32], i: usize, v: usize) -> Entry
     ensures { λ r. ⌜ r ≡ entryAt (slotAt (hubOf (now (hub .entry))) i) v ⌝ }
 {
-    let room = hub.len() == super::hub_words();
-    let there = room & (i < device::max_peers()) & (v < device::max_vectors());
-    if there {
-        return entry(hub, i, v);
+    let sized = super::fits(hub);
+    if sized {
+        let n = super::sizes::count(hub, 0);
+        let m = super::sizes::count(hub, 1);
+        let there = (i < n) & (v < m);
+        if there {
+            return entry(hub, i, v);
+        }
     }
     Entry {
         low: 0,

@@ -13,7 +13,7 @@ use Rattle.device.specs.Ring.{ringOthers, vector}
 use Rattle.device.specs.Sizes.{maxPeers}
 use Rattle.device.specs.World.{Hub}
 use Rattle.device.specs.declared.Settings.{Settings}
-use Rattle.gate.proofs.RingLaws.{peer-below, usable-kept}
+use Rattle.gate.proofs.RingLaws.{peer-below, usable-fits, usable-kept}
 use Rattle.gate.specs.RingOutcome.{Usable}
 use Rattle.words.specs.Layout.{hubOf}
 use Rattle.deliveries.proofs.ListedLaws.{id-fits, counted, More, more-lost, more-delivered, but-kept, Rest, rest-first, rest-more, rest-last}
@@ -52,7 +52,7 @@ more c =
     (c .if1 .came)
 
 settings-requires : tie.Need-settings-requires Inv-loop μ-loop
-settings-requires c κs = c .before .before .pre .room
+settings-requires c κs = usable-fits _ (c .before .before .pre)
 
 empty-requires : tie.Need-empty-requires Inv-loop μ-loop
 empty-requires c κs = search needs
@@ -93,7 +93,7 @@ loop-again : tie.Need-loop-again Inv-loop μ-loop
 loop-again c =
     let s = ap (λ (h : Hub). h .settings) (c .before .before .before .ring-other .ensures .0) ∙ but-kept _ _ _ .settings in
     record {
-      usable = usable-kept _ _ (c .before .before .before .before .before .before .loop .inv .usable) (c .before .before .before .ring-other .kept .0) s;
+      usable = usable-kept _ _ (c .before .before .before .before .before .before .loop .inv .usable) s;
       kept = c .before .before .before .ring-other .kept .0 ∙ c .before .before .before .before .before .before .loop .inv .kept;
       same = c .before .before .before .before .before .before .loop .inv .same ∙ ap (λ (s : Settings). s .peers) (sym s);
       bound = omega arith;

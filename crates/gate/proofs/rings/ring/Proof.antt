@@ -1,7 +1,7 @@
 -- `gate::rings::ring` meets its contract: at nobody, and at a gate.
 use mathlib.Core.Path.{sym, _∙_}
 use borrow.Author.Needs.{needs}
-use Rattle.gate.proofs.RingLaws.{peer-below, found, apart, unanswered, answered}
+use Rattle.gate.proofs.RingLaws.{found, apart, unanswered, answered}
 use Rattle.gate.proofs.rings.ring.Statement.{statement}
 use Rattle.gate.proofs.rings.ring.Tie as tie
 
@@ -25,7 +25,7 @@ pass-local-requires c κs = search needs
 
 disarm-requires : tie.Need-disarm-requires
 disarm-requires c κs =
-    (c .before .before .before .before .before .before .before .before .before .before .before .pre .room, peer-below _ _ (c .before .before .before .before .before .before .before .before .before .before .before .pre) (found _ _ _ _ (sym (c .before .before .before .before .before .before .gate .given .1) ∙ c .before .before .before .before .before .before .before .before .target .ensures)))
+    found _ _ _ _ (sym (c .before .before .before .before .before .before .gate .given .1) ∙ c .before .before .before .before .before .before .before .before .target .ensures)
 
 same-length-2 : tie.Need-same-length-2
 same-length-2 c = search needs

@@ -1,12 +1,12 @@
 -- `gate::rings::target` meets its contract: the code's tests are the definition's, one by one.
 use borrow.Author.Needs.{needs}
 use borrow.Author.Tests.{le-ltb, ne-eqb}
-use Rattle.gate.proofs.RingLaws.{nobody, live, peer-below, vector-below}
+use Rattle.gate.proofs.RingLaws.{nobody, live, usable-fits}
 use Rattle.gate.proofs.rings.target.Statement.{statement}
 use Rattle.gate.proofs.rings.target.Tie as tie
 
 settings-requires : tie.Need-settings-requires
-settings-requires c κs = search needs
+settings-requires c κs = usable-fits _ (c .before .pre)
 
 cast-if1 : tie.Need-cast-if1
 cast-if1 c = search needs
@@ -18,7 +18,7 @@ cast-peer : tie.Need-cast-peer
 cast-peer c = search needs
 
 peer-requires : tie.Need-peer-requires
-peer-requires c κs = (c .before .before .before .before .before .before .pre .room, peer-below _ _ (c .before .before .before .before .before .before .pre) (rw (c .before .before .before .before .settings .ensures) at (c .before .if1 .left)))
+peer-requires c κs = (rw (c .before .before .before .before .settings .ensures) at (c .before .if1 .left))
 
 returns-2 : tie.Need-returns-2
 returns-2 c = nobody _ _ _ 1 (ne-eqb _ _ (rw (c .before .before .peer .ensures) at (c .if2 .taken)))
@@ -31,7 +31,7 @@ returns-3 c = nobody _ _ _ 2 (le-ltb _ _ (rw (c .before .before .before .before 
 
 entry-of-requires : tie.Need-entry-of-requires
 entry-of-requires c κs =
-    (c .before .before .before .before .before .before .before .before .before .before .before .before .pre .room, (peer-below _ _ (c .before .before .before .before .before .before .before .before .before .before .before .before .pre) (rw (c .before .before .before .before .before .before .before .before .before .before .settings .ensures) at (c .before .before .before .before .before .before .before .if1 .left)), vector-below _ _ (c .before .before .before .before .before .before .before .before .before .before .before .before .pre) (rw (c .before .before .before .before .before .before .before .before .before .before .settings .ensures) at (c .if3 .left))))
+    ((rw (c .before .before .before .before .before .before .before .before .before .before .settings .ensures) at (c .before .before .before .before .before .before .before .if1 .left)), (rw (c .before .before .before .before .before .before .before .before .before .before .settings .ensures) at (c .if3 .left)))
 
 gate-of-requires : tie.Need-gate-of-requires
 gate-of-requires c κs = search needs

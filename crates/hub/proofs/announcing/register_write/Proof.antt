@@ -33,7 +33,7 @@ returns c =
 peer-requires : tie.Need-peer-requires
 peer-requires c κs =
     let f = c .before .before .space-refusal .ensures .1 .0 (c .before .if1 .left) in
-    (f .room, f .slot)
+    f .known
 
 memory-on-requires : tie.Need-memory-on-requires
 memory-on-requires c κs = search needs

@@ -28,7 +28,7 @@ returns c =
 put-reset-requires : tie.Need-put-reset-requires
 put-reset-requires c κs =
     let f = c .before .before .joining-refusal .ensures .1 (c .before .if1 .left) in
-    (f .room, f .slot)
+    f .known
 
 answered-requires-2 : tie.Need-answered-requires-2
 answered-requires-2 c κs = search needs

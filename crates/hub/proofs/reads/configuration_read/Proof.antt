@@ -36,7 +36,7 @@ settings-requires c κs = c .before .space-refusal .ensures .1 .0 (c .if1 .left)
 peer-requires : tie.Need-peer-requires
 peer-requires c κs =
     let f = c .before .before .space-refusal .ensures .1 .0 (c .before .if1 .left) in
-    (f .room, f .slot)
+    f .known
 
 read-requires : tie.Need-read-requires
 read-requires c κs =

@@ -37,7 +37,7 @@ returns c =
 peer-requires : tie.Need-peer-requires
 peer-requires c κs =
     let f = c .before .space-refusal .ensures .1 .0 (c .if1 .left) in
-    (f .room, f .slot)
+    f .known
 
 memory-on-requires : tie.Need-memory-on-requires
 memory-on-requires c κs = search needs
@@ -78,7 +78,7 @@ entry-requires c κs =
     let f = c .before .before .before .before .before .before .before .space-refusal .ensures .1 .0 (c .before .before .before .before .before .before .if1 .left) in
     let inside = rw (c .before .in-table .ensures, c .before .before .settings .ensures) at (not-false (c .before .in-table .result) (c .if3 .left)) in
     let v : a .offset / 16 < hubOf (a .hub .now) .settings .vectors = ltb-true _ _ inside in
-    (f .room, (f .slot, omega (arith, accepted-facts _ (f .numbers) .vectors)))
+    (f .known, omega arith)
 
 word-requires : tie.Need-word-requires
 word-requires c κs = search needs

@@ -39,13 +39,13 @@ settings-requires c κs = c .before .space-refusal .ensures .1 .0 (c .if1 .left)
 peer-requires : tie.Need-peer-requires
 peer-requires c κs =
     let f = c .before .before .space-refusal .ensures .1 .0 (c .before .if1 .left) in
-    (f .room, f .slot)
+    f .known
 
 read-requires : tie.Need-read-requires
 read-requires c κs =
     let f = c .before .before .before .space-refusal .ensures .1 .0 (c .before .before .if1 .left) in
     let g = accepted-facts _ (f .numbers) in
-    rw (c .before .settings .ensures) (omega (arith, f .slot, g .peers, maxPeers-small))
+    rw (c .before .settings .ensures) (omega (arith, f .known, g .peers, maxPeers-small))
 
 cast-t12 : tie.Need-cast-t12
 cast-t12 c = search needs

@@ -40,7 +40,7 @@ settings-requires c κs = c .before .before .space-refusal .ensures .1 .0 (c .be
 peer-requires : tie.Need-peer-requires
 peer-requires c κs =
     let f = c .before .before .before .before .space-refusal .ensures .1 .0 (c .before .before .before .if1 .left) in
-    (f .room, f .slot)
+    f .known
 
 write-requires : tie.Need-write-requires
 write-requires c κs =
@@ -50,7 +50,7 @@ write-requires c κs =
 put-peer-requires : tie.Need-put-peer-requires
 put-peer-requires c κs =
     let f = c .before .before .before .before .before .before .before .space-refusal .ensures .1 .0 (c .before .before .before .before .before .before .if1 .left) in
-    (f .room, f .slot)
+    f .known
 
 answered-requires-2 : tie.Need-answered-requires-2
 answered-requires-2 c κs = search needs

@@ -42,7 +42,7 @@ returns c =
 peer-requires : tie.Need-peer-requires
 peer-requires c κs =
     let f = c .before .before .space-refusal .ensures .1 .0 (c .before .if1 .left) in
-    (f .room, f .slot)
+    f .known
 
 memory-on-requires : tie.Need-memory-on-requires
 memory-on-requires c κs = search needs
@@ -95,7 +95,7 @@ entry-requires c κs =
     let f = c .before .before .before .before .before .before .before .before .before .before .space-refusal .ensures .1 .0 (c .before .before .before .before .before .before .before .before .before .if1 .left) in
     let inside = rw (c .before .before .in-table .ensures, c .before .before .before .settings .ensures) at (not-false (c .before .before .in-table .result) (c .before .if3 .left)) in
     let v : a .offset / 16 < hubOf (a .hub .now) .settings .vectors = ltb-true _ _ inside in
-    (f .room, (f .slot, omega (arith, accepted-facts _ (f .numbers) .vectors)))
+    (f .known, omega arith)
 
 with-word-requires : tie.Need-with-word-requires
 with-word-requires c κs = search needs
@@ -107,7 +107,7 @@ put-entry-requires c κs =
     let f = c .before .before .before .before .before .before .before .before .before .before .before .before .before .space-refusal .ensures .1 .0 (c .before .before .before .before .before .before .before .before .before .before .before .before .if1 .left) in
     let inside = rw (c .before .before .before .before .before .in-table .ensures, c .before .before .before .before .before .before .settings .ensures) at (not-false (c .before .before .before .before .before .in-table .result) (c .before .before .before .before .if3 .left)) in
     let v : a .offset / 16 < hubOf (a .hub .now) .settings .vectors = ltb-true _ _ inside in
-    (f .room, (f .slot, omega (arith, accepted-facts _ (f .numbers) .vectors)))
+    (f .known, omega arith)
 
 answered-requires-4 : tie.Need-answered-requires-4
 answered-requires-4 c κs = search needs
