@@ -32,7 +32,6 @@ known-caller ws lent id n region l =
       room = sound-room ws s;
       numbers = sound-numbers (hubOf ws) s;
       known = k;
-      slot = omega (arith, accepted-facts (hubOf ws .settings) (sound-numbers (hubOf ws) s) .peers);
       region = region;
     }
 

@@ -43,9 +43,8 @@ ready ws region records id a =
     }
 
 -- the same hub and region after the own slot was written
-pub ready-kept : (ws after region : List ℕ) (id : ℕ) (slot : Slot) → Ready ws region id → length after ≡ length ws →
-    hubOf after ≡ withSlot (hubOf ws) id slot → Ready after region id
-ready-kept ws after region id slot r n e =
+pub ready-kept : (ws after region : List ℕ) (id : ℕ) (slot : Slot) → Ready ws region id → hubOf after ≡ withSlot (hubOf ws) id slot → Ready after region id
+ready-kept ws after region id slot r e =
     record {
       usable = record { numbers = rw e (r .usable .numbers) };
       known = rw e (r .known);

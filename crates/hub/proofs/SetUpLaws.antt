@@ -1,20 +1,16 @@
 -- Set-up: accepted numbers fit the words, and what each answer leaves.
 use Prim.Native.Nat.{ℕ}
-use mathlib.Core.Bool.{Bool, true, false}
+use mathlib.Core.Bool.{true}
 use mathlib.Core.List.{List}
-use mathlib.Core.Path.{_≡_, refl}
+use mathlib.Core.Path.{_≡_}
 use native.Mathlib.Omega.{arith}
-use lib.Dec.{eqb}
-use lib.ListN.{length}
-use borrow.Author.Tests.{eqb-false, ne-eqb}
-use Rattle.common.specs.Tests.{first}
+use borrow.Author.Tests.{ne-eqb}
 use Rattle.device.specs.declared.Settings.{Settings}
-use Rattle.device.specs.SetUp.{accepted, total, setUpRefusal, hubAfterSetUp, regionAfterSetUp}
+use Rattle.device.specs.SetUp.{accepted, hubAfterSetUp, regionAfterSetUp}
 use Rattle.device.specs.World.{zeroHub}
 use Rattle.device.proofs.SetUpLaws.{accepted-facts, table-small, common-small, output-small}
 use Rattle.device.proofs.SizeLaws.{maxPeers-small, maxVectors-small}
-use Rattle.words.specs.Layout.{hubWords, hubOf, Storable}
-use Rattle.words.proofs.LayoutLaws.{other-length}
+use Rattle.words.specs.Layout.{Storable}
 
 pub storable : (s : Settings) → accepted s ≡ true → Storable s
 storable s e =
@@ -28,24 +24,9 @@ storable s e =
       protocol = omega (arith, f .protocol);
       vendor = omega (arith, f .vendor);
       subsystem = omega (arith, f .subsystem);
+      few = f .peers;
+      less = f .vectors;
     }
-
--- 10 is given exactly to words of another length
-not-ten : (s : Settings) (region : List ℕ) → setUpRefusal true s region ≡ 10 → ⊥
-unfolding setUpRefusal first
-not-ten s region e = by (accepted s) refl (eqb (length region) (total s)) refl
-  where
-    by : (a : Bool) → accepted s ≡ a → (b : Bool) → eqb (length region) (total s) ≡ b → ⊥
-    by false p b q = let z : _≡_ {A = ℕ} 1 10 = rw p at e in omega arith
-    by true p false q = let z : _≡_ {A = ℕ} 2 10 = rw (p, q) at e in omega arith
-    by true p true q = let z : _≡_ {A = ℕ} 0 10 = rw (p, q) at e in omega arith
-
-pub ten-other : (ws region : List ℕ) (s : Settings) → setUpRefusal (eqb (length ws) hubWords) s region ≡ 10 → hubOf ws ≡ zeroHub
-ten-other ws region s e = by (eqb (length ws) hubWords) refl
-  where
-    by : (b : Bool) → eqb (length ws) hubWords ≡ b → hubOf ws ≡ zeroHub
-    by true p = absurd (not-ten s region (rw p at e))
-    by false p = other-length ws (eqb-false _ _ p)
 
 pub hub-refused : (n : ℕ) (s : Settings) → (n ≡ 0 → ⊥) → hubAfterSetUp n s ≡ zeroHub
 hub-refused n s h = rw (ne-eqb n 0 h)

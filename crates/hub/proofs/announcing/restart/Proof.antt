@@ -2,17 +2,18 @@
 use borrow.Author.Needs.{needs}
 use Rattle.device.specs.Effect.{announces}
 use Rattle.device.specs.World.{resetSlot}
+use Rattle.words.specs.Layout.{hubOf}
 use Rattle.hub.proofs.RunLaws.{ready-kept, runs-own-then}
 use Rattle.hub.proofs.announcing.restart.Statement.{statement}
 use Rattle.hub.proofs.announcing.restart.Tie as tie
 
 put-reset-requires : tie.Need-put-reset-requires
-put-reset-requires c κs = search needs
+put-reset-requires c κs = c .before .before .before .pre .known
 
 announce-requires : tie.Need-announce-requires
 announce-requires c κs =
     let a = c .before .before .before .before .before .before .before .before .args in
-    ready-kept (a .hub .now) _ (a .region .now) (a .id) (resetSlot (a .connected)) (c .before .before .before .before .before .before .before .before .pre) (c .before .before .before .before .put-reset .kept .0) (c .before .before .before .before .put-reset .ensures)
+    ready-kept (a .hub .now) _ (a .region .now) (a .id) (resetSlot (hubOf (a .hub .now) .settings .vectors) (a .connected)) (c .before .before .before .before .before .before .before .before .pre) (c .before .before .before .before .put-reset .ensures)
 
 same-length : tie.Need-same-length
 same-length c = search needs
@@ -24,7 +25,7 @@ returns : tie.Need-returns
 unfolding announces resetSlot
 returns c =
     let a = c .before .before .before .before .before .before .before .before .before .before .before .before .before .args in
-    runs-own-then (a .hub .now) (c .before .before .before .before .before .before .before .before .before .put-reset .last .0) _ (a .region .now) _ (a .id) (resetSlot (a .connected)) _ _ (c .before .before .before .before .before .before .before .before .before .put-reset .ensures) (c .before .before .before .before .announce .ensures)
+    runs-own-then (a .hub .now) (c .before .before .before .before .before .before .before .before .before .put-reset .last .0) _ (a .region .now) _ (a .id) (resetSlot (hubOf (a .hub .now) .settings .vectors) (a .connected)) _ _ (c .before .before .before .before .before .before .before .before .before .put-reset .ensures) (c .before .before .before .before .announce .ensures)
 
 pub restart-spec : {M : Type 1} → statement M
 restart-spec =

@@ -43,7 +43,7 @@ announce-requires : tie.Need-announce-requires
 announce-requires c κs =
     let a = c .before .before .before .before .before .before .before .before .before .before .before .before .args in
     let s = slotAt (hubOf (a .hub .now)) (a .id) in
-    ready-kept (a .hub .now) _ (a .region .now) (a .id) (withPeer s (c .before .before .before .before .before .before .with-state .result)) (c .before .before .before .before .before .before .before .before .before .before .before .before .pre) (c .before .before .before .before .put-peer2 .kept .0) (c .before .before .before .before .put-peer2 .ensures)
+    ready-kept (a .hub .now) _ (a .region .now) (a .id) (withPeer s (c .before .before .before .before .before .before .with-state .result)) (c .before .before .before .before .before .before .before .before .before .before .before .before .pre) (c .before .before .before .before .put-peer2 .ensures)
 
 none-requires-2 : tie.Need-none-requires-2
 none-requires-2 c κs = search needs

@@ -35,10 +35,7 @@ returns-2 c =
     joining-facts (a .hub .now) (a .id) _ (rw (s, le-leb _ _ three))
 
 peer-requires : tie.Need-peer-requires
-peer-requires c κs =
-    let s : sound (hubOf (c .before .before .before .before .before .before .args .hub .now)) ≡ true = sym (c .before .before .before .before .sound .ensures) ∙ not-false _ (c .before .before .before .if1 .left) in
-    let three = rw (c .before .before .settings .ensures) at (c .if2 .left) in
-    (sound-room _ s, omega (arith, accepted-facts _ (sound-numbers _ s) .peers))
+peer-requires c κs = rw (c .before .before .settings .ensures) at (c .if2 .left)
 
 returns-3 : tie.Need-returns-3
 unfolding first

@@ -61,10 +61,7 @@ returns-4 c =
     with-facts (a .hub .now) (a .lent) (a .id) _ (rw (s, two, eleven, le-leb _ _ three))
 
 peer-requires : tie.Need-peer-requires
-peer-requires c κs =
-    let s : sound (hubOf (c .before .before .before .before .before .before .before .before .before .before .before .before .before .before .args .hub .now)) ≡ true = sym (c .before .before .before .before .before .before .before .before .before .before .before .before .sound .ensures) ∙ not-false _ (c .before .before .before .before .before .before .before .before .before .before .before .if1 .left) in
-    let three = rw (c .before .before .before .before .before .before .before .before .before .before .settings .ensures) at (c .if4 .left) in
-    (sound-room _ s, omega (arith, accepted-facts _ (sound-numbers _ s) .peers))
+peer-requires c κs = rw (c .before .before .before .before .before .before .before .before .before .before .settings .ensures) at (c .if4 .left)
 
 returns-5 : tie.Need-returns-5
 unfolding first
