@@ -1,14 +1,15 @@
 -- Laws of specs/Listed.antt: the list in hubs with the same entries, a delivery more, and the rings at every other id turn by turn.
-use Prim.Native.Nat.{ℕ, zero, suc, _+_, _-_, _≤_, _<_, _^_}
+use Prim.Native.Nat.{ℕ, zero, suc, _+_, _-_, _≤_, _<_, _^_, min}
 use mathlib.Core.Bool.{Bool, true, false, cond}
-use mathlib.Core.List.{[], _∷_, _++_, map, append-assoc, append-nil, map-append}
+use mathlib.Core.List.{List, [], _∷_, _++_, map, append-assoc, append-nil, map-append}
 use mathlib.Core.Path.{_≡_, refl, sym, ap, _∙_}
 use native.Mathlib.Numerals.{add-one}
 use native.Mathlib.Omega.{arith}
 use lib.Dec.{eqb}
-use lib.ListN.{length, take, set, length-set, length-append, length-map}
+use lib.ListN.{length, take, set, length-set, length-append, length-map, length-take}
 use lib.Seq.{length-take-le, take-suc-set}
 use Rattle.device.proofs.SizeLaws.{maxPeers-pos}
+use Rattle.device.specs.declared.Delivery.{Delivery}
 use Rattle.device.specs.declared.PeerId.{PeerId}
 use Rattle.device.specs.declared.Vector.{Vector}
 use Rattle.device.specs.Ring.{Rung, rung, rungThen, ring, ringFrom, ringOthers, peerId, vector}
@@ -35,6 +36,14 @@ none-lists hub d e = record { deliveries = none-listed hub d e; count = e }
 pub counted : (hub : Hub) (d : Deliveries) → d .count ≤ length (d .targets) → d .count ≡ length (listed hub d)
 unfolding listed
 counted hub d l = sym (length-map (take (d .count) (d .targets)) (sentAt hub (d .vector)) ∙ length-take-le (d .count) (d .targets) l)
+
+pub count-fits : (hub : Hub) (d : Deliveries) (ds : List Delivery) → Lists hub d ds → d .count ≤ length (d .targets)
+unfolding listed
+count-fits hub d ds l =
+    let m : d .count ≡ min (d .count) (length (d .targets)) =
+    l .count ∙ ap length (sym (l .deliveries)) ∙ length-map (take (d .count) (d .targets)) (sentAt hub (d .vector)) ∙ length-take (d .count) (d .targets)
+    in
+    omega arith
 
 -- the records are the same in every hub with the same entries
 pub listed-same : (before after : Hub) (d : Deliveries) → SameEntries before after → listed after d ≡ listed before d

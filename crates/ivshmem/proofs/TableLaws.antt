@@ -22,14 +22,12 @@ use Rattle.device.proofs.SetUpLaws.{accepted-facts}
 use Rattle.device.proofs.StepLaws.{accepted-effect, refused-changes-nothing, step-number}
 use Rattle.soundness.proofs.WholeLaws.{sound-numbers}
 use Rattle.gate.proofs.RingLaws.{ring-kept}
-use Rattle.deliveries.proofs.ListedLaws.{others-kept}
+use Rattle.deliveries.proofs.ListedLaws.{count-fits, others-kept}
 use Rattle.deliveries.specs.Listed.{listed, handedOut}
 use Rattle.hub.specs.declared.Served.{Served}
 use Rattle.hub.specs.Promises.{Serves}
 use Rattle.words.specs.Layout.{hubOf}
-use Rattle.ivshmem.specs.declared.Request.{Request}
-use Rattle.ivshmem.specs.declared.Request.the-variants.{RegisterWrite, Reset, Disconnect}
-use Rattle.ivshmem.specs.Promises.{Fills, HandsOut, actOf}
+use Rattle.ivshmem.specs.Promises.{HandsOut}
 
 -- at most one ring at each id, in each of the lists of operations that ring
 module _ (who : ℕ) (w : World) (some : 0 < w .hub .settings .peers) where
@@ -64,47 +62,58 @@ module _ (h : Hub) (region : List ℕ) (id : ℕ) (act : Act) (n : ℕ) (lent : 
   unfolding shortTable
   table-long = let t : ltb n (h .settings .peers) ≡ false = ap (λ (l : Lent). shortTable (h .settings) l) (sym lent) ∙ none 2 in ltb-false _ _ t
 
--- a call whose operations deliver no more than one interrupt to each id delivers no more than its table has records
-module _ (h : Hub) (region : List ℕ) (id : ℕ) (act : Act) (n : ℕ) (lent : lentTo act ≡ Lent.regionAndTable n)
-    (few : 0 < h .settings .peers → length (runAll id (world h region) (effectIn (world h region) (call id act) .operations) .deliveries) ≤ h .settings .peers) where
-  room-by : (r : ℕ) → refusal (world h region) (call id act) ≡ r → length (step (world h region) (call id act) .deliveries) ≤ n
-  room-by zero e =
-      let l = few (peers-some h region id act n lent e) in
-      let m = table-long h region id act n lent e in
-      rw (accepted-effect (world h region) (call id act) e) (le-trans l m)
-  room-by (suc r) e = rw (refused-changes-nothing (world h region) (call id act) (λ z. let k : _≡_ {A = ℕ} (suc r) 0 = sym e ∙ z in absurd (omega arith))) (omega arith)
+-- a call's deliveries have room in the table that it is lent
+abbrev pub Roomy : (ℕ → Act) → Type 0
+Roomy act = (h : Hub) (region : List ℕ) (id n : ℕ) → length (step (world h region) (call id (act n)) .deliveries) ≤ n
 
-  room : length (step (world h region) (call id act) .deliveries) ≤ n
-  room = room-by (refusal (world h region) (call id act)) refl
+-- so have those of a call whose operations deliver no more than one interrupt to each id
+module _ (act : ℕ → Act) (lent : (n : ℕ) → lentTo (act n) ≡ Lent.regionAndTable n)
+    (few : (h : Hub) (region : List ℕ) (id n : ℕ) → 0 < h .settings .peers →
+    length (runAll id (world h region) (effectIn (world h region) (call id (act n)) .operations) .deliveries) ≤ h .settings .peers) where
+  room-by : (h : Hub) (region : List ℕ) (id n r : ℕ) → refusal (world h region) (call id (act n)) ≡ r → length (step (world h region) (call id (act n)) .deliveries) ≤ n
+  room-by h region id n zero e =
+      let l = few h region id n (peers-some h region id (act n) n (lent n) e) in
+      let m = table-long h region id (act n) n (lent n) e in
+      rw (accepted-effect (world h region) (call id (act n)) e) (le-trans l m)
+  room-by h region id n (suc r) e = rw (refused-changes-nothing (world h region) (call id (act n)) (λ z. let k : _≡_ {A = ℕ} (suc r) 0 = sym e ∙ z in absurd (omega arith))) (omega arith)
 
-request-room : (h : Hub) (region : List ℕ) (id n : ℕ) (request : Request) → length (step (world h region) (call id (actOf request n)) .deliveries) ≤ n
-unfolding lentTo effect actOf
-request-room h region id n (RegisterWrite s) =
-    room h region id (Act.registerWrite n (s .offset) (s .width) (s .value)) n refl
-    (λ some. few-written id (world h region) some (memoryOn (slotAt h id .peer)) (slotAt h id) (registerAt (s .offset)) (s .value))
-request-room h region id n Reset = room h region id (Act.reset n) n refl (λ some. few-announced id (world h region) some (resetSlot 1))
-request-room h region id n Disconnect = room h region id (Act.disconnect n) n refl (λ some. few-announced id (world h region) some (resetSlot 0))
+  roomy : Roomy act
+  roomy h region id n = room-by h region id n (refusal (world h region) (call id (act n))) refl
 
-pub fills : (hub after region regionAfter : List ℕ) (id records : ℕ) (request asked : Request) (r : Served) → request ≡ asked
-    → Serves hub after region regionAfter (call id (actOf asked records)) r → Fills hub after region regionAfter id (actOf request) records r
-fills hub after region regionAfter id records request asked r e s =
-    let t : Serves hub after region regionAfter (call id (actOf request records)) r = rw e s in
-    record { served = t; fits = rw (t .count, t .deliveries) (request-room (hubOf hub) region id records request) }
+pub register-write-room : (offset width value : ℕ) → Roomy (λ n. Act.registerWrite n offset width value)
+unfolding lentTo effect
+register-write-room offset width value =
+    roomy (λ n. Act.registerWrite n offset width value) (λ n. refl)
+    (λ h region id n some. few-written id (world h region) some (memoryOn (slotAt h id .peer)) (slotAt h id) (registerAt offset) value)
+
+pub reset-room : Roomy Act.reset
+unfolding lentTo effect
+reset-room = roomy Act.reset (λ n. refl) (λ h region id n some. few-announced id (world h region) some (resetSlot 1))
+
+pub disconnect-room : Roomy Act.disconnect
+unfolding lentTo effect
+disconnect-room = roomy Act.disconnect (λ n. refl) (λ h region id n some. few-announced id (world h region) some (resetSlot 0))
 
 -- a refused step delivers nothing
 refused-nothing : (w : World) (c : Call) → (step w c .number ≡ 0 → ⊥) → step w c .deliveries ≡ []
 refused-nothing w c h = ap (λ (o : Outcome). o .deliveries) (refused-changes-nothing w c (λ z. h (step-number w c ∙ z)))
 
-pub hands-out : (hub after region regionAfter : List ℕ) (table tableAfter : List Delivery) (id : ℕ) (act : ℕ → Act) (r : Served) (count : ℕ)
-    → Fills hub after region regionAfter id act (length table) r → (tableAfter ≡ handedOut (listed (r .list)) table) × (count ≡ r .list .count)
-    → HandsOut hub after region regionAfter table tableAfter id act (record { reply = r .reply; count = count })
-unfolding handedOut
-hands-out hub after region regionAfter table tableAfter id act r count f e =
-    let s = f .served in
-    record {
-      reply = s .reply;
-      left = s .left;
-      table = rw (← s .deliveries) (e .0);
-      count = e .1 ∙ s .count ∙ ap length (s .deliveries);
-      kept = λ h. (s .kept h, e .0 ∙ rw (s .deliveries, refused-nothing (world (hubOf hub) region) (call id (act (length table))) (λ z. h (ap (λ (a : Reply). a .number) (s .reply) ∙ z))) refl);
-    }
+module _ (hub after region regionAfter : List ℕ) (id : ℕ) (act : ℕ → Act) (r : Served) where
+  -- what `hand_out` asks of the call's list, for a table of n records
+  pub can-hand-out : (n : ℕ) → Roomy act → Serves hub after region regionAfter (call id (act n)) r
+      → (r .list .count ≤ length (r .list .targets)) × (r .list .count ≤ n)
+  can-hand-out n roomy s = (count-fits (hubOf after) (r .list) _ (s .list), rw (s .list .count) (roomy (hubOf hub) region id n))
+
+  pub hands-out : (table tableAfter : List Delivery) (count : ℕ) → Serves hub after region regionAfter (call id (act (length table))) r
+      → (tableAfter ≡ handedOut (listed (hubOf after) (r .list)) table) × (count ≡ r .list .count)
+      → HandsOut hub after region regionAfter table tableAfter id act (record { reply = r .reply; count = count })
+  unfolding handedOut
+  hands-out table tableAfter count s e =
+      let deliveries = s .list .deliveries in
+      record {
+        reply = s .reply;
+        left = s .left;
+        table = rw (← deliveries) (e .0);
+        count = e .1 ∙ s .list .count;
+        kept = λ h. (s .kept h, e .0 ∙ rw (deliveries, refused-nothing (world (hubOf hub) region) (call id (act (length table))) (λ z. h (ap (λ (a : Reply). a .number) (s .reply) ∙ z))));
+      }

@@ -1,5 +1,5 @@
 -- What the exported calls promise, where it is not the promise of the call that they pass on.
-use Prim.Native.Nat.{ℕ, _≤_}
+use Prim.Native.Nat.{ℕ}
 use mathlib.Core.Bool.{cond}
 use mathlib.Core.List.{List}
 use mathlib.Core.Path.{_≡_}
@@ -11,24 +11,9 @@ use Rattle.device.specs.Sections.{kindNumber, ownerNumber}
 use Rattle.device.specs.Step.{step, replyOf, sectionReplyOf}
 use Rattle.device.specs.World.{world}
 use Rattle.deliveries.specs.Listed.{handedOut}
-use Rattle.hub.specs.declared.Served.{Served}
-use Rattle.hub.specs.Promises.{Serves}
 use Rattle.ivshmem.specs.declared.Counted.{Counted}
-use Rattle.ivshmem.specs.declared.Request.{Request}
-use Rattle.ivshmem.specs.declared.Request.the-variants.{RegisterWrite, Reset, Disconnect}
 use Rattle.ivshmem.specs.declared.SectionNumbers.{SectionNumbers}
 use Rattle.words.specs.Layout.{hubOf}
-
--- the call that a request is, for a table of so many records
-unfoldable pub actOf : Request → ℕ → Act
-actOf (RegisterWrite store) records = Act.registerWrite records (store .offset) (store .width) (store .value)
-actOf Reset records = Act.reset records
-actOf Disconnect records = Act.disconnect records
-
--- A call by value, for a table of so many records: its deliveries have room there.
-pub record Fills (hub after region regionAfter : List ℕ) (id : ℕ) (act : ℕ → Act) (records : ℕ) (r : Served) : Type 0 where
-  pub served : Serves hub after region regionAfter (call id (act records)) r
-  pub fits : r .list .count ≤ records
 
 -- A call with the table lent. Reply, hub and region are the step's; its deliveries are written over the table from the front, and
 -- their number is returned. A refusal leaves each word and each record as it was.
