@@ -88,11 +88,11 @@ register-write-room offset width value =
 
 pub reset-room : Roomy Act.reset
 unfolding lentTo effect
-reset-room = roomy Act.reset (λ n. refl) (λ h region id n some. few-announced id (world h region) some (resetSlot 1))
+reset-room = roomy Act.reset (λ n. refl) (λ h region id n some. few-announced id (world h region) some (resetSlot (h .settings .vectors) 1))
 
 pub disconnect-room : Roomy Act.disconnect
 unfolding lentTo effect
-disconnect-room = roomy Act.disconnect (λ n. refl) (λ h region id n some. few-announced id (world h region) some (resetSlot 0))
+disconnect-room = roomy Act.disconnect (λ n. refl) (λ h region id n some. few-announced id (world h region) some (resetSlot (h .settings .vectors) 0))
 
 -- a refused step delivers nothing
 refused-nothing : (w : World) (c : Call) → (step w c .number ≡ 0 → ⊥) → step w c .deliveries ≡ []
