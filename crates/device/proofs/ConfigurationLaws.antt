@@ -9,7 +9,7 @@ use native.Mathlib.Omega.{arith}
 use borrow.Author.Tests.{eqb-true, eqb-false, leb-true, ltb-true, eq-eqb, ne-eqb, le-leb, lt-ltb}
 use lib.Dec.{eqb, leb, ltb}
 use lib.ListN.{replicate}
-use lib.Pow.{pow-add}
+use lib.Pow.{pow-add, shr-shr, mod-pow-add}
 use Rattle.common.specs.Bytes.{byte, number, setByte, merge}
 use Rattle.common.specs.Lists.{tabulate}
 use Rattle.common.proofs.ByteLaws.{byte-suc, byte-zero, byte-setByte-same, byte-setByte-other, merge-small, merge-zero, number-tabulate}
@@ -56,6 +56,31 @@ read-by-bytes s p at (suc w) =
     read-by-bytes s p (suc at) w ∙ ap (λ (f : ℕ → ℕ). number (tabulate w f)) (fun-ext later) in
     ap₂ (λ (b r : ℕ). b + 256 * r) here rest ∙ sym (number-tabulate w (λ j. configurationRead s p (at + j) 1))
 
+-- a read of some of the bytes that another reads: the other shifted down to them and cut to their width
+read-front : (s : Settings) (p : Peer) (at w n : ℕ) → w ≤ n → configurationRead s p at w ≡ configurationRead s p at n % 2 ^ (8 * w)
+unfolding configurationRead
+read-front s p at zero n h = omega arith
+read-front s p at (suc w) zero h = absurd (omega arith)
+read-front s p at (suc w) (suc n) h =
+    let e : 8 * suc w ≡ 8 * w + 8 = omega arith in
+    let all = configurationByte s p at + 256 * configurationRead s p (suc at) n in
+    let rest : all / 2 ^ 8 ≡ configurationRead s p (suc at) n = omega (arith, byte-small s p at) in
+    rw (e, mod-pow-add all (8 * w) 8, rest) (omega (arith, byte-small s p at, read-front s p (suc at) w n (omega arith)))
+
+pub read-within : (s : Settings) (p : Peer) (at k w n : ℕ) → k + w ≤ n
+    → configurationRead s p (at + k) w ≡ configurationRead s p at n / 2 ^ (8 * k) % 2 ^ (8 * w)
+unfolding configurationRead
+read-within s p at zero w n h =
+    let whole : configurationRead s p at n / 2 ^ (8 * 0) ≡ configurationRead s p at n = omega arith in
+    rw (add-zero at, whole) (read-front s p at w n (omega arith))
+read-within s p at (suc k) w zero h = absurd (omega arith)
+read-within s p at (suc k) w (suc n) h =
+    let e : 8 * suc k ≡ 8 + 8 * k = omega arith in
+    let next : at + suc k ≡ suc at + k = omega arith in
+    let all = configurationByte s p at + 256 * configurationRead s p (suc at) n in
+    let rest : all / 2 ^ 8 ≡ configurationRead s p (suc at) n = omega (arith, byte-small s p at) in
+    rw (next, e, ← shr-shr all 8 (8 * k), rest) (read-within s p (suc at) k w n (omega arith))
+
 -- Tests of offsets.
 
 split : {P : Type 0} (a b : ℕ) → (a ≡ b → P) → (eqb a b ≡ false → P) → P
@@ -78,7 +103,7 @@ out-of-range start size o e l h =
     let z : _≡_ {A = ℕ} 0 1 = cc in
     omega arith
 
-within-false : (start size o : ℕ) → (start ≤ o → o < start + size → ⊥) → within start size o ≡ false
+pub within-false : (start size o : ℕ) → (start ≤ o → o < start + size → ⊥) → within start size o ≡ false
 within-false start size o h = go (within start size o) refl
   where
     go : (t : Bool) → within start size o ≡ t → within start size o ≡ false
@@ -218,14 +243,22 @@ one-more m x value at w o =
         rw (within-true at (suc w) o (omega (arith, in-range (suc at) w o e)) (omega (arith, in-range (suc at) w o e)), later, byte-suc (o - suc at) value)
     go n false e = rw (within-false at (suc w) o (λ l h. out-of-range (suc at) w o e (omega (arith, eqb-false o at n)) (omega arith)))
 
+-- what a write leaves of a number f, where a write of one byte merges it under m if it is at o and else leaves it
+module _ (s : Settings) (f : Peer → ℕ) (o m : ℕ)
+    (one : (p : Peer) (at b : ℕ) → b < 256 → f (writtenByte s p at b) ≡ cond (eqb o at) (merge m (f p) b) (f p)) where
+  pub written-part : (p : Peer) (at w value : ℕ)
+      → f (configurationWritten s p at w value) ≡ cond (within at w o) (merge m (f p) (byte (o - at) value)) (f p)
+  unfolding configurationWritten
+  written-part p at zero value = rw (within-false at 0 o (λ l h. omega arith))
+  written-part p at (suc w) value =
+      written-part (writtenByte s p at (value % 256)) (suc at) w (value / 256)
+      ∙ rw (one p at (value % 256) (omega arith)) (one-more m (f p) value at w o)
+
 pub written-reads : (s : Settings) (p : Peer) (at w value o : ℕ)
     → configurationByte s (configurationWritten s p at w value) o
     ≡ cond (within at w o) (merge (maskAt s o) (configurationByte s p o) (byte (o - at) value)) (configurationByte s p o)
-unfolding configurationWritten
-written-reads s p at zero value o = rw (within-false at 0 o (λ l h. omega arith))
-written-reads s p at (suc w) value o =
-    written-reads s (writtenByte s p at (value % 256)) (suc at) w (value / 256) o
-    ∙ rw (written-byte-reads s p at (value % 256) o (omega arith)) (one-more (maskAt s o) (configurationByte s p o) value at w o)
+written-reads s p at w value o =
+    written-part s (λ q. configurationByte s q o) o (maskAt s o) (λ q k b h. written-byte-reads s q k b o h) p at w value
 
 -- The masks of all 256 offsets.
 pub mask-table : (s : Settings)
