@@ -1,1 +1,3 @@
-pub mod OffsetLaws
+pub mod LaneLaws
+pub mod WordLaws
+pub mod WriteLaws

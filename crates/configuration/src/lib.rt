@@ -1,4 +1,5 @@
 // Configuration space: what a read gives, and what a write leaves.
+mod lanes;
 mod reading;
 mod writing;
 

@@ -1,60 +1,24 @@
-// What a read gives, worked out for the bytes asked for and no others.
+// What a read gives: the aligned word that it lies in, shifted down and cut to its width.
+use super::lanes;
 use device::Peer;
 use device::Settings;
 ghost use mathlib.Core.Path.{_≡_};
-ghost use mathlib.Core.Bool.{cond};
-ghost use Prim.Native.Nat.{_+_, _-_, _≤_, _<_, _^_};
-ghost use Rattle.common.specs.Bytes.{byte};
-ghost use Rattle.device.specs.Configuration.{within, headerFields, vendorFields, msixFields, configurationByte, configurationRead};
-ghost use Rattle.configuration.specs.Parts.{fieldByteOr};
+ghost use Prim.Native.Nat.{_+_, _-_, _*_, _%_, _≤_, _<_, _^_};
+ghost use Rattle.device.specs.Configuration.{configurationRead};
 
-// The byte at an offset where a field holds it, else another byte. A field's start and size are small numbers of the table.
-fn field(at: u64, start: u64, size: u64, content: u64, other: u64) -> u64
-    requires small { ⌜ (start < 256) × (size ≤ 8) × (other < 256) ⌝ }
-    ensures is { λ r. ⌜ r ≡ cond (within start size at) (byte (at - start) content) other ⌝ }
-    ensures fits { λ r. ⌜ r < 256 ⌝ }
+// Two registers of two bytes in one word.
+fn halves(low: u64, high: u64) -> u64
+    ensures { λ r. ⌜ r ≡ low % 65536 + 65536 * (high % 65536) ⌝ }
 {
-    let held = (start <= at) & (at < start + size);
-    if held {
-        common::byte_of(content, at - start)
-    } else {
-        other
-    }
+    low % 65536 + 65536 * (high % 65536)
 }
 
-// The fields of a part of the table, from its last row to its first; `other` is what the rows after them give.
-fn header(s: Settings, p: Peer, at: u64, other: u64) -> u64
-    requires small { ⌜ other < 256 ⌝ }
-    ensures is { λ r. ⌜ r ≡ fieldByteOr at (headerFields s p) other ⌝ }
-    ensures fits { λ r. ⌜ r < 256 ⌝ }
+// A register of one byte above three bytes.
+fn topped(low: u64, top: u32) -> u64
+    requires { ⌜ low < 2 ^ 24 ⌝ }
+    ensures { λ r. ⌜ r ≡ low + 16777216 * (top % 256) ⌝ }
 {
-    let r = field(at, 0x34, 1, 0x40, other);
-    let r = field(at, 0x2E, 2, s.subsystem, r);
-    let r = field(at, 0x2C, 2, s.vendor, r);
-    let r = field(at, 0x14, 4, p.bar1 as u64, r);
-    let r = field(at, 0x10, 4, p.bar0 as u64, r);
-    let r = field(at, 0x0B, 1, 0xFF, r);
-    let r = field(at, 0x09, 2, s.protocol, r);
-    let r = field(at, 0x08, 1, 0x00, r);
-    let r = field(at, 0x06, 2, 0x0010, r);
-    let r = field(at, 0x04, 2, p.command as u64, r);
-    let r = field(at, 0x02, 2, 0x4106, r);
-    field(at, 0x00, 2, 0x110A, r)
-}
-
-fn vendor_capability(s: Settings, p: Peer, at: u64, other: u64) -> u64
-    requires small { ⌜ other < 256 ⌝ }
-    ensures is { λ r. ⌜ r ≡ fieldByteOr at (vendorFields s p) other ⌝ }
-    ensures fits { λ r. ⌜ r < 256 ⌝ }
-{
-    let r = field(at, 0x58, 8, s.base, other);
-    let r = field(at, 0x50, 8, s.output, r);
-    let r = field(at, 0x48, 8, s.common, r);
-    let r = field(at, 0x44, 4, s.table, r);
-    let r = field(at, 0x43, 1, p.privileged as u64, r);
-    let r = field(at, 0x42, 1, 0x20, r);
-    let r = field(at, 0x41, 1, 0x60, r);
-    field(at, 0x40, 1, 0x09, r)
+    low + 16777216 * (top as u64 % 256)
 }
 
 // V - 1, the table size that Message Control reports.
@@ -67,45 +31,41 @@ fn table_size(vectors: u64) -> u64
     vectors - 1
 }
 
-fn msix_capability(s: Settings, p: Peer, at: u64, other: u64) -> u64
-    requires small { ⌜ other < 256 ⌝ }
-    ensures is { λ r. ⌜ r ≡ fieldByteOr at (msixFields s p) other ⌝ }
-    ensures fits { λ r. ⌜ r < 256 ⌝ }
+// The aligned word at an offset.
+fn word(s: Settings, p: Peer, at: u64) -> u64
+    requires { ⌜ at % 4 ≡ 0 ⌝ }
+    ensures { λ r. ⌜ r ≡ configurationRead s p at 4 ⌝ }
 {
-    let size = table_size(s.vectors);
-    let r = field(at, 0x68, 4, 0x00000801, other);
-    let r = field(at, 0x64, 4, 0x00000001, r);
-    let r = field(at, 0x63, 1, p.message as u64, r);
-    let r = field(at, 0x62, 1, size, r);
-    let r = field(at, 0x61, 1, 0x00, r);
-    field(at, 0x60, 1, 0x11, r)
+    match at {
+        0x00 => 0x4106110A,
+        0x04 => halves(p.command as u64, 0x0010),
+        0x08 => 0xFF000000 + 256 * (s.protocol % 65536),
+        0x10 => p.bar0 as u64,
+        0x14 => p.bar1 as u64,
+        0x2C => halves(s.vendor, s.subsystem),
+        0x34 => 0x40,
+        0x40 => topped(0x206009, p.privileged),
+        0x44 => s.table % 4294967296,
+        0x48 => s.common % 4294967296,
+        0x4C => s.common / 4294967296,
+        0x50 => s.output % 4294967296,
+        0x54 => s.output / 4294967296,
+        0x58 => s.base % 4294967296,
+        0x5C => s.base / 4294967296,
+        0x60 => topped(0x11 + 65536 * (table_size(s.vectors) % 256), p.message),
+        0x64 => 0x00000001,
+        0x68 => 0x00000801,
+        _ => 0,
+    }
 }
 
-// Only the part of the table that the offset is in is worked out.
-pub fn byte_at(s: Settings, p: Peer, at: u64) -> u64
-    ensures is { λ r. ⌜ r ≡ configurationByte s p at ⌝ }
-    ensures fits { λ r. ⌜ r < 256 ⌝ }
-{
-    if at < 0x40 {
-        return header(s, p, at, 0);
-    }
-    if at < 0x60 {
-        return vendor_capability(s, p, at, 0);
-    }
-    msix_capability(s, p, at, 0)
-}
-
-// A read of up to four bytes, little-endian, from the highest to the lowest.
+// A read of up to four bytes, little-endian, that stays in its word.
 pub fn read(s: Settings, p: Peer, at: u64, width: u64) -> u64
-    requires { ⌜ (width ≤ 4) × (at + width ≤ 256) ⌝ }
+    requires { ⌜ at % 4 + width ≤ 4 ⌝ }
     ensures is { λ r. ⌜ r ≡ configurationRead s p at width ⌝ }
     ensures fits { λ r. ⌜ r < 2 ^ 32 ⌝ }
 {
-    let mut left = width;
-    let mut value = 0;
-    while 0 < left {
-        left -= 1;
-        value = byte_at(s, p, at + left) + 256 * value;
-    }
-    value
+    let place = at % 4;
+    let whole = word(s, p, at - place);
+    (whole >> (8 * place)) & lanes::enabled(0, width)
 }

@@ -1,105 +1,54 @@
-// What a write leaves: byte by byte, only the bits of the mask.
+// What a write leaves: only the bits of the mask change, and only in the register of the word that it lies in.
+use super::lanes;
 use device::Peer;
 use device::Settings;
 ghost use mathlib.Core.Path.{_≡_};
-ghost use mathlib.Core.Bool.{cond};
-ghost use Prim.Native.Nat.{_-_, _+_, _≤_, _<_};
-ghost use Rattle.common.specs.Bytes;
-ghost use Rattle.device.specs.Configuration.{within, maskAt, withByte, writtenByte, configurationWritten};
+ghost use Prim.Native.Nat.{_+_, _%_, _≤_, _<_, _^_};
+ghost use lib.Bits.{bitAnd};
+ghost use Rattle.device.specs.Configuration.{configurationWritten};
+ghost use Rattle.configuration.specs.Parts.{mergeWord, mergeLast, wordWritten};
 
-fn mask_at(s: Settings, at: u64) -> u64
-    ensures is { λ r. ⌜ r ≡ maskAt s at ⌝ }
-    ensures fits { λ r. ⌜ r < 256 ⌝ }
+// The old word with the mask's bits, in the lanes of `bits`, taken from the new one.
+fn merged(bits: u64, mask: u32, old: u32, new: u64) -> u32
+    ensures { λ r. ⌜ r ≡ mergeWord (bitAnd bits mask) old new ⌝ }
 {
-    match at {
-        0x04 => 0x06,
-        0x05 => 0x04,
-        0x11 => 0xF0,
-        0x15 => 0xF0,
-        0x12 => 0xFF,
-        0x13 => 0xFF,
-        0x16 => 0xFF,
-        0x17 => 0xFF,
-        0x43 => 0x01,
-        0x63 => 0xC0,
-        _ => 0x00,
-    }
+    let m = bits & (mask as u64);
+    (old & !(m as u32)) | ((new & m) as u32)
 }
 
-// The old byte with the mask's bits taken from the new one.
-fn merge(mask: u64, old: u64, new: u64) -> u64
+// The same for a register that is the last byte of its word.
+fn merged_last(bits: u64, mask: u32, old: u32, new: u64) -> u32
     requires { ⌜ mask < 256 ⌝ }
-    ensures is { λ r. ⌜ r ≡ Bytes.merge mask old new ⌝ }
-    ensures fits { λ r. ⌜ r < 256 ⌝ }
+    ensures { λ r. ⌜ r ≡ mergeLast bits mask old new ⌝ }
 {
-    (old & (255 - mask)) | (new & mask)
-}
-
-// A word with its byte k replaced.
-fn set_byte(k: u64, b: u64, x: u32) -> u32
-    requires { ⌜ (k < 4) × (b < 256) ⌝ }
-    ensures { λ r. ⌜ r ≡ Bytes.setByte k b x ⌝ }
-{
-    let x = x as u64;
-    match k {
-        0 => (x / 256 * 256 + b) as u32,
-        1 => (x / 65536 * 65536 + b * 256 + x % 256) as u32,
-        2 => (x / 16777216 * 16777216 + b * 65536 + x % 65536) as u32,
-        _ => (b * 16777216 + x % 16777216) as u32,
+    if bits < 16777216 {
+        return old;
     }
+    (old & (255 - mask)) | (((new / 16777216) & (mask as u64)) as u32)
 }
 
-// A register of `size` bytes from `start`, with the byte at an offset replaced where it is one of its own.
-fn replaced(at: u64, start: u64, size: u64, b: u64, x: u32) -> u32
-    requires { ⌜ (start < 256) × (size ≤ 4) × (b < 256) ⌝ }
-    ensures { λ r. ⌜ r ≡ cond (within start size at) (Bytes.setByte (at - start) b x) x ⌝ }
-{
-    let held = (start <= at) & (at < start + size);
-    if held { set_byte(at - start, b, x) } else { x }
-}
-
-fn with_byte(p: Peer, at: u64, b: u64) -> Peer
-    requires { ⌜ b < 256 ⌝ }
-    ensures { λ r. ⌜ r ≡ withByte p at b ⌝ }
-{
-    Peer {
-        connected: p.connected,
-        command: replaced(at, 0x04, 2, b, p.command),
-        bar0: replaced(at, 0x10, 4, b, p.bar0),
-        bar1: replaced(at, 0x14, 4, b, p.bar1),
-        privileged: common::choose(at == 0x43, b as u32, p.privileged),
-        message: common::choose(at == 0x63, b as u32, p.message),
-        interrupt: p.interrupt,
-        state: p.state,
-    }
-}
-
-// Most bytes have no bit that can be written.
-fn write_byte(s: Settings, p: Peer, at: u64, b: u64) -> Peer
-    ensures { λ r. ⌜ r ≡ writtenByte s p at b ⌝ }
-{
-    let mask = mask_at(s, at);
-    if mask == 0 {
-        return p;
-    }
-    let old = super::reading::byte_at(s, p, at);
-    with_byte(p, at, merge(mask, old, b))
-}
-
-// A write of up to four bytes of a value, from the lowest.
-pub fn write(s: Settings, p: Peer, at: u64, width: u64, value: u64) -> Peer
-    requires { ⌜ (width ≤ 4) × (at + width ≤ 256) ⌝ }
-    ensures { λ r. ⌜ r ≡ configurationWritten s p at width value ⌝ }
+// The word at an offset written, in the lanes of `bits`.
+fn write_word(s: Settings, p: Peer, at: u64, bits: u64, new: u64) -> Peer
+    ensures { λ r. ⌜ r ≡ wordWritten s p at bits new ⌝ }
 {
     let mut q = p;
-    let mut next = at;
-    let mut left = width;
-    let mut rest = value;
-    while 0 < left {
-        q = write_byte(s, q, next, rest % 256);
-        next += 1;
-        left -= 1;
-        rest /= 256;
+    match at {
+        0x04 => q.command = merged(bits, 0x0406, p.command, new),
+        0x10 => q.bar0 = merged(bits, 0xFFFFF000, p.bar0, new),
+        0x14 => q.bar1 = merged(bits, 0xFFFFF000, p.bar1, new),
+        0x40 => q.privileged = merged_last(bits, 0x01, p.privileged, new),
+        0x60 => q.message = merged_last(bits, 0xC0, p.message, new),
+        _ => {}
     }
     q
+}
+
+// A write of up to four bytes of a value, from the lowest, that stays in its word.
+pub fn write(s: Settings, p: Peer, at: u64, width: u64, value: u64) -> Peer
+    requires { ⌜ at % 4 + width ≤ 4 ⌝ }
+    ensures { λ r. ⌜ r ≡ configurationWritten s p at width value ⌝ }
+{
+    let place = at % 4;
+    let bits = lanes::enabled(place, width);
+    write_word(s, p, at - place, bits, value << (8 * place))
 }

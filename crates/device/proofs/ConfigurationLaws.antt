@@ -94,10 +94,10 @@ pub in-range : (start size o : ℕ) → within start size o ≡ true → (start 
 in-range start size o e =
     (leb-true start o (and-left (leb start o) (ltb o (start + size)) e), ltb-true o (start + size) (and-right (leb start o) (ltb o (start + size)) e))
 
-within-true : (start size o : ℕ) → start ≤ o → o < start + size → within start size o ≡ true
+pub within-true : (start size o : ℕ) → start ≤ o → o < start + size → within start size o ≡ true
 within-true start size o l h = ap₂ (λ (a b : Bool). a && b) (le-leb start o l) (lt-ltb o (start + size) h)
 
-out-of-range : (start size o : ℕ) → within start size o ≡ false → start ≤ o → o < start + size → ⊥
+pub out-of-range : (start size o : ℕ) → within start size o ≡ false → start ≤ o → o < start + size → ⊥
 out-of-range start size o e l h =
     let yes′ : within start size o ≡ true = within-true start size o l h in
     let z : _≡_ {A = ℕ} 0 1 = cc in
@@ -242,6 +242,14 @@ one-more m x value at w o =
         let later : o - at ≡ suc (o - suc at) = omega (arith, in-range (suc at) w o e) in
         rw (within-true at (suc w) o (omega (arith, in-range (suc at) w o e)) (omega (arith, in-range (suc at) w o e)), later, byte-suc (o - suc at) value)
     go n false e = rw (within-false at (suc w) o (λ l h. out-of-range (suc at) w o e (omega (arith, eqb-false o at n)) (omega arith)))
+
+-- what a write of one byte keeps, a write of any width keeps
+pub written-keeps : (s : Settings) (P : Peer → Type 0) → ((p : Peer) (at b : ℕ) → b < 256 → P p → P (writtenByte s p at b))
+    → (p : Peer) (at w value : ℕ) → P p → P (configurationWritten s p at w value)
+unfolding configurationWritten
+written-keeps s P one p at zero value h = h
+written-keeps s P one p at (suc w) value h =
+    written-keeps s P one (writtenByte s p at (value % 256)) (suc at) w (value / 256) (one p at (value % 256) (omega arith) h)
 
 -- what a write leaves of a number f, where a write of one byte merges it under m if it is at o and else leaves it
 module _ (s : Settings) (f : Peer → ℕ) (o m : ℕ)

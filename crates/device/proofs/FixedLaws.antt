@@ -17,7 +17,7 @@ use Rattle.device.specs.declared.Peer.{Peer}
 use Rattle.device.specs.declared.Settings.{Settings}
 use Rattle.device.specs.Configuration.{within, fields, fieldByte, configurationByte, masks, maskIn, maskAt, maskOf, withByte, writtenByte, configurationWritten}
 use Rattle.device.specs.Sound.{peerFixed}
-use Rattle.device.proofs.ConfigurationLaws.{in-range, mask-small}
+use Rattle.device.proofs.ConfigurationLaws.{in-range, mask-small, written-keeps}
 
 -- no bit of a register is set but those that a write can set
 pub record Fixed (s : Settings) (p : Peer) : Type 0 where
@@ -155,11 +155,8 @@ byte-fixed s p at new f =
 
 -- a write of any width: the registers stay fixed, and the connection is no part of them
 pub written-fixed : (s : Settings) (p : Peer) (at w x : ℕ) → Fixed s p → Fixed s (configurationWritten s p at w x)
-unfolding configurationWritten
-written-fixed s p at zero x f = f
-written-fixed s p at (suc w) x f = written-fixed s (writtenByte s p at (x % 256)) (suc at) w (x / 256) (byte-fixed s p at (x % 256) f)
+written-fixed s p at w x f = written-keeps s (Fixed s) (λ q k b h g. byte-fixed s q k b g) p at w x f
 
 pub written-connected : (s : Settings) (p : Peer) (at w x : ℕ) → configurationWritten s p at w x .connected ≡ p .connected
-unfolding configurationWritten writtenByte withByte
-written-connected s p at zero x = refl
-written-connected s p at (suc w) x = written-connected s (writtenByte s p at (x % 256)) (suc at) w (x / 256)
+unfolding writtenByte withByte
+written-connected s p at w x = written-keeps s (λ q. q .connected ≡ p .connected) (λ q k b h e. e) p at w x refl

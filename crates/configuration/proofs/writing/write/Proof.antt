@@ -1,69 +1,39 @@
--- `configuration::writing::write` meets its contract. The loop's invariant: what is left to write leads to the same registers. The measure is `left`.
-use Prim.Native.Nat.{ℕ, suc, _+_, _-_, _/_, _%_, _<_}
-use mathlib.Core.Path.{_≡_, refl, sym, ap, _∙_}
+-- `configuration::writing::write` meets its contract: the write of the word, in the lanes of the access, is the write of its bytes.
+use mathlib.Core.Path.{sym}
 use native.Mathlib.Omega.{arith}
-use Rattle.device.specs.Configuration.{writtenByte, configurationWritten}
-use Rattle.device.specs.declared.Peer.{Peer}
-use Rattle.device.specs.declared.Settings.{Settings}
+use Rattle.configuration.proofs.WriteLaws.{written-word}
+use borrow.Author.Needs.{needs}
 use Rattle.configuration.proofs.writing.write.Statement.{statement}
 use Rattle.configuration.proofs.writing.write.Tie as tie
 
-abbrev Inv-loop : tie.InvT-loop
-Inv-loop s at width value q₀ next₀ left₀ rest₀ q next left rest =
-    (next + left ≡ at + width) × (configurationWritten s q next left rest ≡ configurationWritten s q₀ at width value)
+enabled-requires : tie.Need-enabled-requires
+enabled-requires c κs = search needs
 
-abbrev μ-loop : tie.MeasureT-loop
-μ-loop s at width value q₀ next₀ left₀ rest₀ q next left rest = left
+sub-write-word : tie.Need-sub-write-word
+sub-write-word c = search needs
 
--- one byte written, and what is left to write
-one-more : (s : Settings) (q : Peer) (next left rest : ℕ) → 0 < left →
-    configurationWritten s (writtenByte s q next (rest % 256)) (next + 1) (left - 1) (rest / 256)
-    ≡ configurationWritten s q next left rest
-unfolding configurationWritten
-one-more s q next left rest h =
-    let e : left ≡ suc (left - 1) = omega arith in
-    let f : next + 1 ≡ suc next = omega arith in
-    rw f (sym (ap (λ (n : ℕ). configurationWritten s q next n rest) e))
+mul-write-word : tie.Need-mul-write-word
+mul-write-word c = search needs
 
-none-left : (s : Settings) (q : Peer) (next left rest : ℕ) → left ≡ 0 → configurationWritten s q next left rest ≡ q
-unfolding configurationWritten
-none-left s q next left rest e = rw e
+shl-write-word : tie.Need-shl-write-word
+shl-write-word c = search needs
 
-loop-holds : tie.Need-loop-holds Inv-loop μ-loop
-loop-holds c = (omega arith, refl)
+write-word-requires : tie.Need-write-word-requires
+write-word-requires c κs = search needs
 
-write-byte-requires : tie.Need-write-byte-requires Inv-loop μ-loop
-write-byte-requires c κs = tt
-
-add-next : tie.Need-add-next Inv-loop μ-loop
-add-next c = omega arith
-
-sub-left : tie.Need-sub-left Inv-loop μ-loop
-sub-left c = omega arith
-
-loop-less : tie.Need-loop-less Inv-loop μ-loop
-loop-less c = omega arith
-
-loop-again : tie.Need-loop-again Inv-loop μ-loop
-loop-again c =
-    let l = c .before .before .loop in
-    (omega arith, rw (c .write-byte .ensures) (one-more _ (l .q) (l .next) (l .left) (l .rest) (omega arith) ∙ l .inv .1))
-
-returns : tie.Need-returns Inv-loop μ-loop
+returns : tie.Need-returns
 returns c =
-    let l = c .before .loop in
-    sym (none-left _ (l .q) (l .next) (l .left) (l .rest) (omega arith)) ∙ l .inv .1
+    let a = c .before .before .args in
+    rw (c .write-word .ensures, c .before .enabled .ensures)
+    (sym (written-word (a .s) (a .p) (a .at) (a .width) (a .value) (c .before .before .pre) (omega arith) (omega arith) (omega arith)))
 
 pub write-spec : {M : Type 1} → statement M
 write-spec =
     tie.close
     (tie.spec
-    Inv-loop
-    μ-loop
-    loop-holds
-    write-byte-requires
-    add-next
-    sub-left
-    loop-less
-    loop-again
+    enabled-requires
+    sub-write-word
+    mul-write-word
+    shl-write-word
+    write-word-requires
     returns)
