@@ -2,3 +2,4 @@ pub mod ByteLaws
 pub mod ListLaws
 pub mod MaskLaws
 pub mod TestLaws
+pub mod WordLaws

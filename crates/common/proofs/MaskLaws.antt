@@ -5,7 +5,7 @@ use mathlib.Core.Path.{_≡_, sym, ap, _∙_}
 use native.Mathlib.Omega.{arith}
 use borrow.Author.Tests.{eqb-true, eq-eqb}
 use lib.Arith.{bin-ind}
-use lib.Bits.{bitAnd, bitOr, bitXor, and-step, or-step, and-zero-l, and-zero-r, or-zero-l, or-comm, xor-self, xor-add-and, and-block, and-le-l, and-le-r}
+use lib.Bits.{bitAnd, bitOr, bitXor, and-step, or-step, and-zero-l, and-zero-r, or-zero-l, or-comm, xor-self, xor-add-and, and-block, and-le-l, and-le-r, and-mod}
 use lib.Dec.{eqb}
 use Rattle.common.specs.Bytes.{bit, only, merge}
 use Rattle.common.proofs.TestLaws.{and-left, and-right, alike}
@@ -73,6 +73,19 @@ bit-merge m old new h k =
     let c : merge m old new / 2 % 2 ≡ new / 2 % 2 =
     omega (arith, or-step (bitAnd old (255 - m)) (bitAnd new m), or-step (bitAnd old (255 - m) / 2) (bitAnd new m / 2)) in
     ap (λ (x : ℕ). eqb x 1) c
+
+-- of the numbers that are merged only the low bytes count
+and-low : (x b : ℕ) → b < 256 → bitAnd (x % 256) b ≡ bitAnd x b
+and-low x b h =
+    let e : b % 2 ^ 8 ≡ b = omega arith in
+    let f : bitAnd x b % 2 ^ 8 ≡ bitAnd x b = omega (arith, and-le-r x b) in
+    sym (rw (f, e) at (and-mod x b 8))
+
+pub merge-old : (m old new : ℕ) → merge m (old % 256) new ≡ merge m old new
+merge-old m old new = rw (and-low old (255 - m) (omega arith))
+
+pub merge-new : (m old new : ℕ) → m < 256 → merge m old (new % 256) ≡ merge m old new
+merge-new m old new h = rw (and-low new m h)
 
 -- a number whose bits are some of another's keeps to a mask that the other keeps to
 or-part : (a b m : ℕ) → bitAnd (bitOr a b) m ≡ bitOr a b → bitAnd a m ≡ a

@@ -1,3 +1,3 @@
 pub mod LaneLaws
-pub mod WordLaws
+pub mod ReadLaws
 pub mod WriteLaws

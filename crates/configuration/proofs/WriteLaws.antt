@@ -1,5 +1,5 @@
 -- A write of some bytes of one word is the write of that word in the lanes of those bytes.
-use Prim.Native.Nat.{ℕ, zero, suc, _+_, _-_, _*_, _/_, _%_, _^_, _<_, _≤_}
+use Prim.Native.Nat.{ℕ, _+_, _-_, _*_, _/_, _%_, _^_, _<_, _≤_}
 use mathlib.Core.Bool.{Bool, true, false, cond}
 use mathlib.Core.Path.{_≡_, refl, sym, ap, _∙_}
 use native.Mathlib.Nat.{lt-of-le-of-lt}
@@ -7,28 +7,17 @@ use native.Mathlib.Omega.{arith}
 use borrow.Author.Tests.{eq-eqb, ne-eqb, lt-ltb, le-ltb}
 use lib.Bits.{bitAnd, and-le-l, and-le-r, or-lt}
 use lib.Dec.{eqb}
-use lib.Pow.{shr-shr}
-use Rattle.common.specs.Bytes.{byte, bytes, number, setByte, merge}
-use Rattle.common.proofs.ByteLaws.{byte-suc, byte-zero, byte-setByte-other, merge-small, merge-zero}
+use Rattle.common.specs.Bytes.{byte, setByte, merge}
+use Rattle.common.proofs.ByteLaws.{byte-zero, byte-setByte-other, merge-small, merge-zero}
+use Rattle.common.proofs.MaskLaws.{merge-old, merge-new}
 use Rattle.common.proofs.TestLaws.{by-equal}
+use Rattle.common.proofs.WordLaws.{byte-and, each-byte, same-word, setByte-small}
 use Rattle.device.specs.Configuration.{within, fields, fieldByte, configurationByte, masks, maskIn, maskAt, maskOf, withByte, writtenByte, configurationWritten}
 use Rattle.device.specs.declared.Peer.{Peer}
 use Rattle.device.specs.declared.Settings.{Settings}
-use Rattle.device.proofs.ConfigurationLaws.{within-true, within-false, in-range, out-of-range, mask-small, written-keeps, written-part, written-reads}
+use Rattle.device.proofs.ConfigurationLaws.{within-true, within-false, in-range, out-of-range, mask-small, byte-mask, written-keeps, written-part, written-reads}
 use Rattle.configuration.specs.Parts.{lanes, mergeWord, mergeLast, wordWritten}
-use Rattle.configuration.proofs.LaneLaws.{each, same-word, byte-and, byte-merge, byte-placed, byte-lanes, lanes-small, merge-lane, merge-old, merge-new}
-
--- the bytes of a mask
-byte-mask : (s : Settings) (at n j : ℕ) → j < n → byte j (maskOf s at n) ≡ maskAt s (at + j)
-unfolding maskOf
-byte-mask s at zero j h = absurd (omega arith)
-byte-mask s at (suc n) zero h =
-    let e : at + 0 ≡ at = omega arith in
-    rw e (byte-zero (maskAt s at + 256 * maskOf s (suc at) n) ∙ omega (arith, mask-small s at))
-byte-mask s at (suc n) (suc j) h =
-    let e : at + suc j ≡ suc at + j = omega arith in
-    let rest : (maskAt s at + 256 * maskOf s (suc at) n) / 256 ≡ maskOf s (suc at) n = omega (arith, mask-small s at) in
-    rw (e, byte-suc j (maskAt s at + 256 * maskOf s (suc at) n), rest) (byte-mask s (suc at) n j (omega arith))
+use Rattle.configuration.proofs.LaneLaws.{byte-lanes, lanes-small, byte-placed, byte-merge, merge-lane}
 
 -- An access, and a word at an offset `start` that it meets or not.
 module _ (s : Settings) (at w value : ℕ) (inside : at % 4 + w ≤ 4) (start : ℕ) (aligned : start % 4 ≡ 0) where
@@ -118,16 +107,8 @@ record Kept (p q : Peer) : Type 0 where
   interrupt : q .interrupt ≡ p .interrupt
   state : q .state ≡ p .state
 
-set-small : (k b x : ℕ) → b < 256 → setByte k b x < 2 ^ 32
-unfolding setByte bytes number
-set-small zero b x h = omega arith
-set-small (suc zero) b x h = omega arith
-set-small (suc (suc zero)) b x h = omega arith
-set-small (suc (suc (suc zero))) b x h = omega arith
-set-small (suc (suc (suc (suc k)))) b x h = omega arith
-
 stays-word : (t : Bool) (k b x : ℕ) → b < 256 → x < 2 ^ 32 → cond t (setByte k b x) x < 2 ^ 32
-stays-word true k b x hb hx = set-small k b x hb
+stays-word true k b x hb hx = setByte-small k b x hb
 stays-word false k b x hb hx = hx
 
 stays-above : (j at b x : ℕ) → 2 ≤ j → j < 4 → b < 256 → byte j (cond (within 0x04 2 at) (setByte (at - 0x04) b x) x) ≡ byte j x
@@ -163,37 +144,46 @@ single s p k x at b e =
 
 module _ (s : Settings) (p : Peer) (at w value : ℕ) (inside : at % 4 + w ≤ 4)
     (command : p .command < 2 ^ 32) (bar0 : p .bar0 < 2 ^ 32) (bar1 : p .bar1 < 2 ^ 32) where
-  kept : Kept p (configurationWritten s p at w value)
+  abbrev after : Peer
+  after = configurationWritten s p at w value
+
+  kept : Kept p after
   kept =
       written-keeps s (Kept p) (λ q k b h e. byte-kept s p q k b e) p at w value
       (record { connected = refl; command = command; third = refl; fourth = refl; bar0 = bar0; bar1 = bar1; interrupt = refl; state = refl })
 
-  privileged : configurationWritten s p at w value .privileged ≡ cond (within at w 0x43) (merge (maskAt s 0x43) (p .privileged) (byte (0x43 - at) value)) (p .privileged)
-  unfolding writtenByte withByte configurationByte fieldByte fields
-  privileged = written-part s (λ q. q .privileged) 0x43 (maskAt s 0x43) (λ q k b h. single s q 0x43 (q .privileged) k b refl) p at w value
-
-  message : configurationWritten s p at w value .message ≡ cond (within at w 0x63) (merge (maskAt s 0x63) (p .message) (byte (0x63 - at) value)) (p .message)
-  unfolding writtenByte withByte configurationByte fieldByte fields
-  message = written-part s (λ q. q .message) 0x63 (maskAt s 0x63) (λ q k b h. single s q 0x63 (q .message) k b refl) p at w value
-
-  -- bytes that have no mask are as they were
-  above : (j : ℕ) → j < 4 → maskAt s (0x04 + j) ≡ 0 → byte j (configurationWritten s p at w value .command) ≡ byte j (p .command)
-      → byte j (configurationWritten s p at w value .command) ≡ written s at w value inside 0x04 refl j (p .command)
+  -- a byte of the Command register that the space does not have
+  above : (j : ℕ) → j < 4 → maskAt s (0x04 + j) ≡ 0 → byte j (after .command) ≡ byte j (p .command)
+      → byte j (after .command) ≡ written s at w value inside 0x04 refl j (p .command)
   above j h m e = rw (m, merge-zero (byte j (p .command)) (byte (0x04 + j - at) value) (omega arith)) (go (within at w (0x04 + j)))
     where
-      go : (t : Bool) → byte j (configurationWritten s p at w value .command) ≡ cond t (byte j (p .command)) (byte j (p .command))
+      go : (t : Bool) → byte j (after .command) ≡ cond t (byte j (p .command)) (byte j (p .command))
       go true = e
       go false = e
 
-  pub written-word : configurationWritten s p at w value ≡ wordWritten s p (at - at % 4) (lanes (at % 4) w) (value * 2 ^ (8 * (at % 4)) % 2 ^ 64)
+  privileged : after .privileged ≡ cond (within at w 0x43) (merge (maskAt s 0x43) (p .privileged) (byte (0x43 - at) value)) (p .privileged)
+  unfolding writtenByte withByte configurationByte fieldByte fields
+  privileged =
+      written-part s (λ q. q .privileged) 0x43 (maskAt s 0x43) (λ q k b h. single s q 0x43 (q .privileged) k b refl) p at w value
+
+  message : after .message ≡ cond (within at w 0x63) (merge (maskAt s 0x63) (p .message) (byte (0x63 - at) value)) (p .message)
+  unfolding writtenByte withByte configurationByte fieldByte fields
+  message =
+      written-part s (λ q. q .message) 0x63 (maskAt s 0x63) (λ q k b h. single s q 0x63 (q .message) k b refl) p at w value
+
+  pub written-word : after ≡ wordWritten s p (at - at % 4) (lanes (at % 4) w) (value * 2 ^ (8 * (at % 4)) % 2 ^ 64)
   unfolding wordWritten configurationByte fieldByte fields maskAt maskIn masks
-  written-word = λ t. record {
-    connected = kept .connected t;
-    command = word s at w value inside 0x04 refl (p .command) _ command (kept .command) (each _ (written-reads s p at w value 0x04) (written-reads s p at w value 0x05) (above 2 (omega arith) refl (kept .third)) (above 3 (omega arith) refl (kept .fourth))) t;
-    bar0 = word s at w value inside 0x10 refl (p .bar0) _ bar0 (kept .bar0) (each _ (written-reads s p at w value 0x10) (written-reads s p at w value 0x11) (written-reads s p at w value 0x12) (written-reads s p at w value 0x13)) t;
-    bar1 = word s at w value inside 0x14 refl (p .bar1) _ bar1 (kept .bar1) (each _ (written-reads s p at w value 0x14) (written-reads s p at w value 0x15) (written-reads s p at w value 0x16) (written-reads s p at w value 0x17)) t;
-    privileged = last s at w value inside 0x40 refl (maskAt s 0x43) (p .privileged) _ (mask-small s 0x43) privileged t;
-    message = last s at w value inside 0x60 refl (maskAt s 0x63) (p .message) _ (mask-small s 0x63) message t;
-    interrupt = kept .interrupt t;
-    state = kept .state t;
-  }
+  written-word =
+      let r = written-reads s p at w value in
+      λ t. record {
+        connected = kept .connected t;
+        command =
+            word s at w value inside 0x04 refl (p .command) _ command (kept .command)
+            (each-byte _ (r 0x04) (r 0x05) (above 2 (omega arith) refl (kept .third)) (above 3 (omega arith) refl (kept .fourth))) t;
+        bar0 = word s at w value inside 0x10 refl (p .bar0) _ bar0 (kept .bar0) (each-byte _ (r 0x10) (r 0x11) (r 0x12) (r 0x13)) t;
+        bar1 = word s at w value inside 0x14 refl (p .bar1) _ bar1 (kept .bar1) (each-byte _ (r 0x14) (r 0x15) (r 0x16) (r 0x17)) t;
+        privileged = last s at w value inside 0x40 refl (maskAt s 0x43) (p .privileged) _ (mask-small s 0x43) privileged t;
+        message = last s at w value inside 0x60 refl (maskAt s 0x63) (p .message) _ (mask-small s 0x63) message t;
+        interrupt = kept .interrupt t;
+        state = kept .state t;
+      }

@@ -1,6 +1,6 @@
 // The bytes that an access takes of the aligned word that it lies in.
 ghost use mathlib.Core.Path.{_≡_};
-ghost use Prim.Native.Nat.{_+_, _≤_, _<_, _^_};
+ghost use Prim.Native.Nat.{_+_, _≤_};
 ghost use Rattle.configuration.specs.Parts.{lanes};
 
 // The bits of the byte lanes that an access of `width` bytes enables, `place` bytes into the word.

@@ -13,12 +13,12 @@ fn halves(low: u64, high: u64) -> u64
     low % 65536 + 65536 * (high % 65536)
 }
 
-// A register of one byte above three bytes.
-fn topped(low: u64, top: u32) -> u64
-    requires { ⌜ low < 2 ^ 24 ⌝ }
-    ensures { λ r. ⌜ r ≡ low + 16777216 * (top % 256) ⌝ }
+// Three bytes, and a register of one byte as the word's last.
+fn with_last(first: u64, last: u32) -> u64
+    requires { ⌜ first < 2 ^ 24 ⌝ }
+    ensures { λ r. ⌜ r ≡ first + 16777216 * (last % 256) ⌝ }
 {
-    low + 16777216 * (top as u64 % 256)
+    first + 16777216 * (last as u64 % 256)
 }
 
 // V - 1, the table size that Message Control reports.
@@ -44,7 +44,7 @@ fn word(s: Settings, p: Peer, at: u64) -> u64
         0x14 => p.bar1 as u64,
         0x2C => halves(s.vendor, s.subsystem),
         0x34 => 0x40,
-        0x40 => topped(0x206009, p.privileged),
+        0x40 => with_last(0x206009, p.privileged),
         0x44 => s.table % 4294967296,
         0x48 => s.common % 4294967296,
         0x4C => s.common / 4294967296,
@@ -52,14 +52,14 @@ fn word(s: Settings, p: Peer, at: u64) -> u64
         0x54 => s.output / 4294967296,
         0x58 => s.base % 4294967296,
         0x5C => s.base / 4294967296,
-        0x60 => topped(0x11 + 65536 * (table_size(s.vectors) % 256), p.message),
+        0x60 => with_last(0x11 + 65536 * (table_size(s.vectors) % 256), p.message),
         0x64 => 0x00000001,
         0x68 => 0x00000801,
         _ => 0,
     }
 }
 
-// A read of up to four bytes, little-endian, that stays in its word.
+// A read of some bytes of one word, little-endian.
 pub fn read(s: Settings, p: Peer, at: u64, width: u64) -> u64
     requires { ⌜ at % 4 + width ≤ 4 ⌝ }
     ensures is { λ r. ⌜ r ≡ configurationRead s p at width ⌝ }

@@ -3,7 +3,7 @@ use super::lanes;
 use device::Peer;
 use device::Settings;
 ghost use mathlib.Core.Path.{_≡_};
-ghost use Prim.Native.Nat.{_+_, _%_, _≤_, _<_, _^_};
+ghost use Prim.Native.Nat.{_+_, _%_, _≤_, _<_};
 ghost use lib.Bits.{bitAnd};
 ghost use Rattle.device.specs.Configuration.{configurationWritten};
 ghost use Rattle.configuration.specs.Parts.{mergeWord, mergeLast, wordWritten};
@@ -43,7 +43,7 @@ fn write_word(s: Settings, p: Peer, at: u64, bits: u64, new: u64) -> Peer
     q
 }
 
-// A write of up to four bytes of a value, from the lowest, that stays in its word.
+// A write of some bytes of one word: the low bytes of the value, from the lowest.
 pub fn write(s: Settings, p: Peer, at: u64, width: u64, value: u64) -> Peer
     requires { ⌜ at % 4 + width ≤ 4 ⌝ }
     ensures { λ r. ⌜ r ≡ configurationWritten s p at width value ⌝ }

@@ -16,7 +16,7 @@ use Rattle.common.proofs.ByteLaws.{byte-suc, byte-zero, byte-setByte-same, byte
 use Rattle.common.proofs.TestLaws.{and-left, and-right}
 use Rattle.device.specs.declared.Peer.{Peer}
 use Rattle.device.specs.declared.Settings.{Settings}
-use Rattle.device.specs.Configuration.{Field, fieldByte, fields, within, configurationByte, configurationRead, masks, maskIn, maskAt, withByte, writtenByte, configurationWritten}
+use Rattle.device.specs.Configuration.{Field, fieldByte, fields, within, configurationByte, configurationRead, masks, maskIn, maskAt, maskOf, withByte, writtenByte, configurationWritten}
 
 infixr 5 _and_
 -- Reads.
@@ -154,6 +154,16 @@ byte-other s p q o (n04, (n05, (n10, (n11, (n12, (n13, (n14, (n15, (n16, (n17, (
 pub mask-small : (s : Settings) (o : ℕ) → maskAt s o < 256
 unfolding maskAt masks maskIn
 mask-small s o = by-offset (λ k. maskAt s k < 256) kept (omega arith) o (λ n. rw (mask-other s o n) (omega arith))
+
+-- the bytes of a mask of several bytes
+pub byte-mask : (s : Settings) (at n j : ℕ) → j < n → byte j (maskOf s at n) ≡ maskAt s (at + j)
+unfolding maskOf
+byte-mask s at zero j h = absurd (omega arith)
+byte-mask s at (suc n) zero h = rw (add-zero at) (byte-zero (maskAt s at + 256 * maskOf s (suc at) n) ∙ omega (arith, mask-small s at))
+byte-mask s at (suc n) (suc j) h =
+    let next : at + suc j ≡ suc at + j = omega arith in
+    let rest : (maskAt s at + 256 * maskOf s (suc at) n) / 256 ≡ maskOf s (suc at) n = omega (arith, mask-small s at) in
+    rw (next, byte-suc j (maskAt s at + 256 * maskOf s (suc at) n), rest) (byte-mask s (suc at) n j (omega arith))
 
 -- a byte of a register of several bytes, and of one of a single byte, after the byte at an offset was replaced
 word-byte : (start size j at b x : ℕ) → j < size → size ≤ 4 → b < 256

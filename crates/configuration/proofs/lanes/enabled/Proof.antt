@@ -1,9 +1,9 @@
--- x
-use Prim.Native.Nat.{ℕ, _+_, _*_, _%_, _^_, _≤_}
+-- `configuration::lanes::enabled` meets its contract: four bytes at the most, so no shift loses a bit.
+use Prim.Native.Nat.{ℕ, _*_, _%_, _^_, _≤_}
 use mathlib.Core.Path.{_≡_, _∙_}
 use native.Mathlib.Omega.{arith}
-use lib.Pow.{shl-exact, ones-lt, pow-pos}
 use borrow.Author.Needs.{needs}
+use lib.Pow.{pow-pos, shl-exact, ones-lt}
 use Rattle.configuration.proofs.lanes.enabled.Statement.{statement}
 use Rattle.configuration.proofs.lanes.enabled.Tie as tie
 

@@ -1,14 +1,14 @@
--- x
+-- `configuration::reading::read` meets its contract: the bytes asked for are the word's, from their place on and cut to their number.
 use Prim.Native.Nat.{_+_, _-_, _*_, _/_, _%_, _<_, _≤_, _^_}
 use mathlib.Core.Path.{_≡_, refl, sym}
 use native.Mathlib.Nat.{lt-of-lt-of-le}
 use native.Mathlib.Omega.{arith}
+use borrow.Author.Needs.{needs}
 use lib.Bits.{bitAnd, and-mask}
 use lib.Pow.{pow-mono}
 use Rattle.device.specs.Configuration.{configurationRead}
-use Rattle.device.proofs.ConfigurationLaws.{read-within, read-small}
+use Rattle.device.proofs.ConfigurationLaws.{read-small, read-within}
 use Rattle.configuration.specs.Parts.{lanes}
-use borrow.Author.Needs.{needs}
 use Rattle.configuration.proofs.reading.read.Statement.{statement}
 use Rattle.configuration.proofs.reading.read.Tie as tie
 

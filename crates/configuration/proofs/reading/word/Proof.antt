@@ -1,15 +1,19 @@
--- x
-use Prim.Native.Nat.{_%_, _^_}
-use mathlib.Core.List.{[], _∷_}
-use mathlib.Core.Path.{_≡_, refl, sym, _∙_}
-use Rattle.common.specs.Tests.{below}
-use Rattle.configuration.proofs.LaneLaws.{low-word}
-use Rattle.configuration.proofs.WordLaws.{high-word, two-halves, no-word}
+-- `configuration::reading::word` meets its contract: at each key the table's bytes make the word, and no field meets any other word.
+use Prim.Native.Nat.{ℕ}
+use mathlib.Core.List.{List, [], _∷_}
+use mathlib.Core.Path.{refl, sym}
 use native.Mathlib.Omega.{arith}
-use Rattle.device.specs.Configuration.{configurationRead, configurationByte, fieldByte, fields}
 use borrow.Author.Needs.{needs}
+use Rattle.common.specs.Tests.{below}
+use Rattle.common.proofs.WordLaws.{low-word, high-word, whole-word}
+use Rattle.device.specs.Configuration.{fields, fieldByte, configurationByte, configurationRead}
+use Rattle.configuration.proofs.ReadLaws.{two-halves, no-word}
 use Rattle.configuration.proofs.reading.word.Statement.{statement}
 use Rattle.configuration.proofs.reading.word.Tie as tie
+
+-- the words that fields meet, the last first
+abbrev keys : List ℕ
+keys = 0x68 ∷ 0x64 ∷ 0x60 ∷ 0x5C ∷ 0x58 ∷ 0x54 ∷ 0x50 ∷ 0x4C ∷ 0x48 ∷ 0x44 ∷ 0x40 ∷ 0x34 ∷ 0x2C ∷ 0x14 ∷ 0x10 ∷ 0x08 ∷ 0x04 ∷ 0x00 ∷ []
 
 cast-halves : tie.Need-cast-halves
 cast-halves c = search needs
@@ -32,24 +36,24 @@ cast-result-2 c = search needs
 halves-requires-2 : tie.Need-halves-requires-2
 halves-requires-2 c κs = search needs
 
-topped-requires : tie.Need-topped-requires
-topped-requires c κs = search needs
+with-last-requires : tie.Need-with-last-requires
+with-last-requires c κs = search needs
 
 table-size-requires : tie.Need-table-size-requires
 table-size-requires c κs = search needs
 
-mul-topped : tie.Need-mul-topped
-mul-topped c = search needs
+mul-with-last : tie.Need-mul-with-last
+mul-with-last c = search needs
 
-add-topped : tie.Need-add-topped
-add-topped c = search needs
+add-with-last : tie.Need-add-with-last
+add-with-last c = search needs
 
-topped-requires-2 : tie.Need-topped-requires-2
-topped-requires-2 c κs = search needs
+with-last-requires-2 : tie.Need-with-last-requires-2
+with-last-requires-2 c κs = search needs
 
 returns : tie.Need-returns
 unfolding configurationRead configurationByte fieldByte fields
-returns c = rw (c .match .keys1) (omega arith)
+returns c = rw (c .match .keys1)
 
 returns-2 : tie.Need-returns-2
 unfolding configurationRead configurationByte fieldByte fields
@@ -61,11 +65,11 @@ returns-3 c = rw (c .before .match .keys3) (omega arith)
 
 returns-4 : tie.Need-returns-4
 unfolding configurationRead configurationByte fieldByte fields
-returns-4 c = let x = c .before .before .args .p .bar0 in let e : x ≡ x % 2 ^ 32 = omega arith in rw (c .before .match .keys4) (e ∙ low-word x)
+returns-4 c = rw (c .before .match .keys4) (whole-word (c .before .before .args .p .bar0) (omega arith))
 
 returns-5 : tie.Need-returns-5
 unfolding configurationRead configurationByte fieldByte fields
-returns-5 c = let x = c .before .before .args .p .bar1 in let e : x ≡ x % 2 ^ 32 = omega arith in rw (c .before .match .keys5) (e ∙ low-word x)
+returns-5 c = rw (c .before .match .keys5) (whole-word (c .before .before .args .p .bar1) (omega arith))
 
 returns-6 : tie.Need-returns-6
 unfolding configurationRead configurationByte fieldByte fields
@@ -73,7 +77,7 @@ returns-6 c = rw (c .halves2 .ensures, c .before .match .keys6) (two-halves _ _)
 
 returns-7 : tie.Need-returns-7
 unfolding configurationRead configurationByte fieldByte fields
-returns-7 c = rw (c .match .keys7) (omega arith)
+returns-7 c = rw (c .match .keys7)
 
 returns-8 : tie.Need-returns-8
 unfolding configurationRead configurationByte fieldByte fields
@@ -113,15 +117,17 @@ returns-16 c = rw (c .before .before .match .keys16) (omega arith)
 
 returns-17 : tie.Need-returns-17
 unfolding configurationRead configurationByte fieldByte fields
-returns-17 c = rw (c .match .keys17) (omega arith)
+returns-17 c = rw (c .match .keys17)
 
 returns-18 : tie.Need-returns-18
 unfolding configurationRead configurationByte fieldByte fields
-returns-18 c = rw (c .match .keys18) (omega arith)
+returns-18 c = rw (c .match .keys18)
 
 returns-19 : tie.Need-returns-19
 unfolding fields below
-returns-19 c = let a = c .before .args in sym (no-word (a .s) (a .p) (0x68 ∷ 0x64 ∷ 0x60 ∷ 0x5C ∷ 0x58 ∷ 0x54 ∷ 0x50 ∷ 0x4C ∷ 0x48 ∷ 0x44 ∷ 0x40 ∷ 0x34 ∷ 0x2C ∷ 0x14 ∷ 0x10 ∷ 0x08 ∷ 0x04 ∷ 0x00 ∷ []) (a .at) refl (c .match .rest) (omega arith))
+returns-19 c =
+    let a = c .before .args in
+    sym (no-word (a .s) (a .p) keys (a .at) refl (c .match .rest) (omega arith))
 
 pub word-spec : {M : Type 1} → statement M
 word-spec =
@@ -134,11 +140,11 @@ word-spec =
     cast-result
     cast-result-2
     halves-requires-2
-    topped-requires
+    with-last-requires
     table-size-requires
-    mul-topped
-    add-topped
-    topped-requires-2
+    mul-with-last
+    add-with-last
+    with-last-requires-2
     returns
     returns-2
     returns-3

@@ -1,35 +1,30 @@
--- The aligned words of configuration space, from their bytes.
-use Prim.Native.Nat.{ℕ, zero, suc, _+_, _-_, _*_, _/_, _%_, _^_, _<_, _≤_}
-use mathlib.Core.Bool.{Bool, true, false, cond, _&&_, _||_}
+-- The aligned words of configuration space, as the table's fields give them.
+use Prim.Native.Nat.{ℕ, suc, _+_, _-_, _*_, _%_, _<_, _≤_}
+use mathlib.Core.Bool.{Bool, true, false, _&&_, _||_}
 use mathlib.Core.List.{List, [], _∷_}
-use mathlib.Core.Path.{_≡_, refl, sym, ap, _∙_}
+use mathlib.Core.Path.{_≡_, refl}
 use native.Mathlib.Omega.{arith}
 use borrow.Author.Tests.{ne-eqb}
 use lib.Dec.{eqb}
 use Rattle.common.specs.Bytes.{byte}
 use Rattle.common.specs.Tests.{below}
 use Rattle.common.proofs.TestLaws.{and-left, and-right, below-true}
-use Rattle.device.specs.Configuration.{Field, within, fields, fieldByte, configurationByte, configurationRead}
+use Rattle.common.proofs.WordLaws.{part, low-half}
+use Rattle.device.specs.Configuration.{Field, fields, fieldByte, configurationByte, configurationRead}
 use Rattle.device.specs.declared.Peer.{Peer}
 use Rattle.device.specs.declared.Settings.{Settings}
 use Rattle.device.proofs.ConfigurationLaws.{within-false}
-use Rattle.configuration.proofs.LaneLaws.{part, cut}
 
--- A word that one field fills: with the low four bytes of a number (`low-word`), and with the next four.
-pub high-word : (x : ℕ) → x < 2 ^ 64 → x / 2 ^ 32 ≡ part 4 4 x
-high-word x h = let e : x / 2 ^ 32 ≡ x / 2 ^ (8 * 4) % 2 ^ (8 * 4) = omega arith in e ∙ cut 4 4 x
-
--- a word of two fields of two bytes
+-- a word of two registers of two bytes
 pub two-halves : (x y : ℕ) → x % 65536 + 65536 * (y % 65536) ≡ byte 0 x + 256 * (byte 1 x + 256 * part 2 0 y)
-two-halves x y = rw (half x, half y) (join (byte 0 x) (byte 1 x) (part 2 0 y))
+two-halves x y = rw (low-half x, low-half y) (join (byte 0 x) (byte 1 x) (part 2 0 y))
   where
-    half : (z : ℕ) → z % 65536 ≡ part 2 0 z
-    half z = let e : z % 65536 ≡ z / 2 ^ (8 * 0) % 2 ^ (8 * 2) = omega arith in e ∙ cut 2 0 z
-
     join : (a b c : ℕ) → a + 256 * (b + 256 * 0) + 65536 * c ≡ a + 256 * (b + 256 * c)
     join a b c = omega arith
 
--- A word that no field meets. What a `match` on an offset leaves to its last arm: the offset is none of its keys, the last key first.
+-- A word that no field meets.
+
+-- what a `match` on an offset leaves to its last arm: the offset is none of its keys, of which the last stands first here
 abbrev pub NoneOf : ℕ → List ℕ → Type 0
 NoneOf at [] = Unit {0}
 NoneOf at (k ∷ ks) = NoneOf at ks × (at ≡ k → ⊥)
@@ -62,12 +57,11 @@ no-field ks o (f ∷ fs) e n =
     omega arith in
     rw (within-false (f .start) (f .size) o not-here) (no-field ks o fs (and-right (inWords ks f) (allIn ks fs) e) n)
 
-pub no-word : (s : Settings) (p : Peer) (ks : List ℕ) (at : ℕ) → allIn ks (fields s p) ≡ true → NoneOf at ks → at % 4 ≡ 0 → configurationRead s p at 4 ≡ 0
+pub no-word : (s : Settings) (p : Peer) (ks : List ℕ) (at : ℕ) → allIn ks (fields s p) ≡ true → NoneOf at ks → at % 4 ≡ 0
+    → configurationRead s p at 4 ≡ 0
 unfolding configurationRead configurationByte
 no-word s p ks at e n a =
-    rw (empty 0 at (omega arith) (omega arith), empty 1 (suc at) (omega arith) (omega arith), empty 2 (suc (suc at)) (omega arith) (omega arith), empty 3 (suc (suc (suc at))) (omega arith) (omega arith))
+    rw (empty at (omega arith), empty (suc at) (omega arith), empty (suc (suc at)) (omega arith), empty (suc (suc (suc at))) (omega arith))
   where
-    empty : (j o : ℕ) → j < 4 → o ≡ at + j → fieldByte o (fields s p) ≡ 0
-    empty j o h i =
-        let same : o - o % 4 ≡ at = omega arith in
-        no-field ks o (fields s p) e (rw same (none-of at ks n))
+    empty : (o : ℕ) → o - o % 4 ≡ at → fieldByte o (fields s p) ≡ 0
+    empty o same = no-field ks o (fields s p) e (rw same (none-of at ks n))
