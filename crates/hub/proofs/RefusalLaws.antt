@@ -88,7 +88,7 @@ module _ (ws : List ℕ) (lent : Lending) (id size : ℕ) (allowed : Bool) (at w
       let none =
       first-none (spaceRows size allowed at w) refl
       (first-parts (admission (hubOf ws) lent id) (spaceRows size allowed at w) refl e .1) in
-      record { width = not-false allowed (none 0); fits = ltb-false _ _ (none 2) }
+      record { width = not-false allowed (none 0); aligned = eqb-true _ _ (not-false _ (none 1)); fits = ltb-false _ _ (none 2) }
 
 pub space-facts : (ws : List ℕ) (lent : Lending) (id size : ℕ) (allowed : Bool) (at w r : ℕ) →
     r ≡ first (admission (hubOf ws) lent id ++ spaceRows size allowed at w) →

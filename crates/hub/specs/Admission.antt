@@ -68,6 +68,7 @@ pub record Admitted (ws : List ℕ) (lent : Lending) (id : ℕ) : Type 0 where
 
 pub record Inside (size : ℕ) (allowed : Bool) (at w : ℕ) : Type 0 where
   pub width : allowed ≡ true
+  pub aligned : at % w ≡ 0
   pub fits : at + w ≤ size
 
 pub record InSection (s : Settings) (offset size : ℕ) : Type 0 where

@@ -6,6 +6,7 @@ use Rattle.device.specs.Call.{Act}
 use Rattle.device.specs.Effect.{effect}
 use Rattle.device.specs.Refusal.{lentTo, accessOf}
 use Rattle.words.specs.Layout.{hubOf}
+use Rattle.configuration.proofs.LaneLaws.{in-one-word}
 use Rattle.hub.proofs.RefusalLaws.{configuration-refusal, any-width}
 use Rattle.hub.proofs.ReplyLaws.{reply-refused, reply-accepted}
 use Rattle.hub.proofs.reads.configuration_read.Statement.{statement}
@@ -41,7 +42,7 @@ peer-requires c κs =
 read-requires : tie.Need-read-requires
 read-requires c κs =
     let f = c .before .before .before .space-refusal .ensures .1 .1 (c .before .before .if1 .left) in
-    (any-width (c .before .before .before .before .before .before .args .width) (f .width) .1, f .fits)
+    in-one-word _ _ (f .width) (f .aligned)
 
 cast-t16 : tie.Need-cast-t16
 cast-t16 c = search needs

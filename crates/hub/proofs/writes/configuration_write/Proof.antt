@@ -7,6 +7,7 @@ use Rattle.device.specs.Effect.{effect}
 use Rattle.device.specs.Refusal.{lentTo, accessOf}
 use Rattle.device.specs.Step.{run, runAll}
 use Rattle.words.specs.Layout.{hubOf}
+use Rattle.configuration.proofs.LaneLaws.{in-one-word}
 use Rattle.hub.proofs.RefusalLaws.{configuration-refusal, any-width}
 use Rattle.hub.proofs.ReplyLaws.{changes-refused, changes-accepted}
 use Rattle.hub.proofs.writes.configuration_write.Statement.{statement}
@@ -45,7 +46,7 @@ peer-requires c κs =
 write-requires : tie.Need-write-requires
 write-requires c κs =
     let f = c .before .before .before .before .before .before .space-refusal .ensures .1 .1 (c .before .before .before .before .before .if1 .left) in
-    (any-width (c .before .before .before .before .before .before .before .before .before .before .args .width) (f .width) .1, f .fits)
+    in-one-word _ _ (f .width) (f .aligned)
 
 put-peer-requires : tie.Need-put-peer-requires
 put-peer-requires c κs =
