@@ -1,14 +1,17 @@
 /*
  * ivshmem v2 hub: joins 2 to IVSHMEM_MAX_PEERS guests through shared memory, a doorbell and a state word.
  *
- * The hub is an array of IVSHMEM_HUB_WORDS words that the host owns and lends to each call; the library keeps nothing of its
- * own, allocates nothing and calls nothing but memcpy, memmove and memset. Its contents are private to the library: any memory
- * may be handed in, and what is not a sound hub is refused with IVSHMEM_UNSOUND_HUB.
+ * The hub is an array of IVSHMEM_HUB_WORDS(peers, vectors) words, no more and no fewer, that the host owns and lends to each
+ * call; the library keeps nothing of its own, allocates nothing and calls nothing but memcpy, memmove and memset. Its contents
+ * are private to the library: any memory may be handed in, and what is not a sound hub is refused with IVSHMEM_UNSOUND_HUB. So
+ * are words whose number is not the one that they were set up with.
  *
  * What every call has in common:
  * - Any numbers are answered. The answer's `number` is 0, or tells why the call was refused.
  * - A refused call changes no word of the hub, no byte of the region or of a buffer, no record of a table, and delivers
- *   nothing. (A set-up refused with 1 or 2 leaves the hub all zero, which is not sound.)
+ *   nothing. A refused set-up alone changes the words that it is lent: it leaves all of them zero, which is no sound hub.
+ * - Of the region, a set-up writes every byte; a reset, a disconnect, and a register write that stores State write the bytes
+ *   4 * id to 4 * id + 3; a load reads the bytes of its range, and a store writes them. No call touches any other byte of it.
  * - Pointers are not null, also where the length beside them is 0, are aligned for their type, and point to as many elements
  *   as the length says; what is lent to one call does not overlap, but for parts that are only read.
  * - Calls on one hub, or on one region, are made one at a time; calls on different hubs may run at once.
@@ -23,17 +26,23 @@
 extern "C" {
 #endif
 
-/* The most peers and vectors that a hub can be set up with, and the words of a hub: 18 KB, for every set-up. */
+/* The most peers and vectors that a hub can be set up with. */
 #define IVSHMEM_MAX_PEERS 64
 #define IVSHMEM_MAX_VECTORS 16
-#define IVSHMEM_HUB_WORDS (10 + 8 * IVSHMEM_MAX_PEERS + 4 * IVSHMEM_MAX_PEERS * IVSHMEM_MAX_VECTORS)
+
+/* How many words a hub of so many peers and vectors has, as a size_t; with constants it is a constant, for an array's length.
+   424 bytes for 4 peers by 4 vectors, 18 KB for the largest. */
+#define IVSHMEM_HUB_WORDS(peers, vectors) \
+    ((size_t)10 + (size_t)8 * (size_t)(peers) + (size_t)4 * (size_t)(peers) * (size_t)(vectors))
+#define IVSHMEM_MAX_HUB_WORDS IVSHMEM_HUB_WORDS(IVSHMEM_MAX_PEERS, IVSHMEM_MAX_VECTORS)
 
 /* Bytes of a peer's three spaces. */
 #define IVSHMEM_CONFIGURATION_BYTES 256
 #define IVSHMEM_REGISTER_BYTES 4096
 #define IVSHMEM_MSIX_BYTES 4096
 
-/* Why a call was refused. Where several apply, the first in this order is given: 10, 1, 2, 11, 3, 4 or 5, 6, 7, 8, 9. */
+/* Why a call was refused. Where several apply, the first in this order is given: 1, 10, 2, 11, 3, 4 or 5, 6, 7, 8, 9. Only a
+   set-up gives 1, so that in every other call 10 comes first. */
 enum ivshmem_number {
     IVSHMEM_ACCEPTED = 0,
     IVSHMEM_BAD_SETTING = 1,    /* a set-up number is outside its range */
@@ -45,7 +54,7 @@ enum ivshmem_number {
     IVSHMEM_MISALIGNED = 7,     /* the offset is not a multiple of the width */
     IVSHMEM_OUT_OF_RANGE = 8,   /* past the end of the space, or not whole in one section */
     IVSHMEM_READ_ONLY = 9,      /* store to the State Table or to another peer's output section */
-    IVSHMEM_UNSOUND_HUB = 10,   /* the hub handed in is not sound */
+    IVSHMEM_UNSOUND_HUB = 10,   /* the hub handed in is not sound; in a set-up: not as many words as it asks for */
     IVSHMEM_SHORT_TABLE = 11    /* the delivery table has fewer records than there are peers */
 };
 
@@ -56,12 +65,12 @@ typedef struct ivshmem_reply {
 } ivshmem_reply;
 
 /* An interrupt that the host injects into a guest: MSI-X vector `vector` of peer `target`, its message address and data. The
-   last four bytes are padding, and hold anything in a record that a call has written. */
+   record has no padding. */
 typedef struct ivshmem_delivery {
-    uint32_t target;
-    uint32_t vector;
     uint64_t address;
     uint32_t payload;
+    uint16_t target;
+    uint16_t vector;
 } ivshmem_delivery;
 
 /* An answer, and the number of records written to the table. The count is for the host alone: no guest may learn it. */
@@ -95,7 +104,9 @@ typedef struct ivshmem_section {
    IVSHMEM_MAX_VECTORS, the same for all; table: bytes of the State Table, a nonzero multiple of 4096 and at least 4 * peers;
    common and output: bytes of the read/write section and of each peer's output section, multiples of 4096, zero allowed. The
    region's length is table + common + peers * output, at most 2^30. base: the region's guest physical address, a multiple of
-   4096, with base + length at most 2^64. Refused with 10 (the words' length), 1 or 2. */
+   4096, with base + length at most 2^64. Refused with 1, whatever is lent; then with 10 where hub_words is not
+   IVSHMEM_HUB_WORDS(peers, vectors); then with 2. Each of these leaves all the words zero, however many they are, and the
+   region as it was. */
 ivshmem_reply ivshmem_set_up(uint32_t *hub, size_t hub_words, uint8_t *region, size_t region_bytes, uint64_t peers,
                              uint64_t vectors, uint64_t table, uint64_t common, uint64_t output, uint64_t base,
                              uint16_t protocol, uint16_t vendor, uint16_t subsystem);
@@ -148,13 +159,14 @@ ivshmem_reply ivshmem_store(const uint32_t *hub, size_t hub_words, uint8_t *regi
 /* The layout that the library was built with. */
 #if defined(__STDC_VERSION__) && __STDC_VERSION__ >= 201112L
 _Static_assert(sizeof(size_t) == 8, "the library is built for 64-bit hosts");
-_Static_assert(IVSHMEM_HUB_WORDS == 4618, "words of a hub");
+_Static_assert(IVSHMEM_HUB_WORDS(4, 4) == 106, "words of a hub of 4 peers by 4 vectors");
+_Static_assert(IVSHMEM_MAX_HUB_WORDS == 4618, "words of the largest hub");
 _Static_assert(sizeof(ivshmem_reply) == 8, "ivshmem_reply");
 _Static_assert(offsetof(ivshmem_reply, value) == 4, "ivshmem_reply.value");
-_Static_assert(sizeof(ivshmem_delivery) == 24, "ivshmem_delivery");
-_Static_assert(offsetof(ivshmem_delivery, vector) == 4, "ivshmem_delivery.vector");
-_Static_assert(offsetof(ivshmem_delivery, address) == 8, "ivshmem_delivery.address");
-_Static_assert(offsetof(ivshmem_delivery, payload) == 16, "ivshmem_delivery.payload");
+_Static_assert(sizeof(ivshmem_delivery) == 16, "ivshmem_delivery");
+_Static_assert(offsetof(ivshmem_delivery, payload) == 8, "ivshmem_delivery.payload");
+_Static_assert(offsetof(ivshmem_delivery, target) == 12, "ivshmem_delivery.target");
+_Static_assert(offsetof(ivshmem_delivery, vector) == 14, "ivshmem_delivery.vector");
 _Static_assert(sizeof(ivshmem_counted) == 16, "ivshmem_counted");
 _Static_assert(offsetof(ivshmem_counted, count) == 8, "ivshmem_counted.count");
 _Static_assert(sizeof(ivshmem_section) == 20, "ivshmem_section");

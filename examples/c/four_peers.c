@@ -7,13 +7,14 @@
 #include "ivshmem.h"
 
 enum { PEERS = 4, VECTORS = 2, TABLE = 4096, COMMON = 4096, OUTPUT = 4096, TOTAL = TABLE + COMMON + PEERS * OUTPUT };
+enum { WORDS = IVSHMEM_HUB_WORDS(PEERS, VECTORS) };
 
 /* Places in a peer's spaces. */
 enum { COMMAND = 0x04, PRIVILEGED_CONTROL = 0x43, MESSAGE_CONTROL = 0x62 };
 enum { INTERRUPT_CONTROL = 0x08, DOORBELL = 0x0C, STATE = 0x10 };
 enum { ENTRY_BYTES = 16, ADDRESS = 0, PAYLOAD = 8, CONTROL = 12 };
 
-static uint32_t hub[IVSHMEM_HUB_WORDS];
+static uint32_t hub[WORDS];
 static uint8_t region[TOTAL];
 static ivshmem_delivery deliveries[PEERS];
 
@@ -29,26 +30,31 @@ static void delivered(const char *what, ivshmem_counted answer)
 {
     answered(what, answer.reply);
     for (size_t i = 0; i < answer.count; i++)
-        printf("    interrupt for peer %" PRIu32 ": vector %" PRIu32 ", address %08" PRIX64 "h, data %" PRIX32 "h\n",
+        printf("    interrupt for peer %" PRIu16 ": vector %" PRIu16 ", address %08" PRIX64 "h, data %" PRIX32 "h\n",
                deliveries[i].target, deliveries[i].vector, deliveries[i].address, deliveries[i].payload);
+}
+
+static ivshmem_reply set_up(size_t words, uint64_t peers)
+{
+    return ivshmem_set_up(hub, words, region, TOTAL, peers, VECTORS, TABLE, COMMON, OUTPUT, 0x100000000, 1, 0x110A, 0x4106);
 }
 
 static ivshmem_counted write_register(uint64_t id, uint64_t offset, uint32_t value)
 {
-    return ivshmem_register_write(hub, IVSHMEM_HUB_WORDS, region, TOTAL, deliveries, PEERS, id, offset, 4, value);
+    return ivshmem_register_write(hub, WORDS, region, TOTAL, deliveries, PEERS, id, offset, 4, value);
 }
 
 /* What a guest's driver does: memory and bus master on, each vector's message set and unmasked, MSI-X on, interrupts on. */
 static int switch_on(uint64_t id)
 {
-    uint32_t refused = ivshmem_configuration_write(hub, IVSHMEM_HUB_WORDS, id, COMMAND, 2, 0x0006).number;
+    uint32_t refused = ivshmem_configuration_write(hub, WORDS, id, COMMAND, 2, 0x0006).number;
     for (uint64_t v = 0; v < VECTORS; v++) {
         uint64_t entry = ENTRY_BYTES * v;
-        refused |= ivshmem_msix_write(hub, IVSHMEM_HUB_WORDS, id, entry + ADDRESS, 4, 0xFEE00000).number;
-        refused |= ivshmem_msix_write(hub, IVSHMEM_HUB_WORDS, id, entry + PAYLOAD, 4, (uint32_t)(0x40 + 16 * v + id)).number;
-        refused |= ivshmem_msix_write(hub, IVSHMEM_HUB_WORDS, id, entry + CONTROL, 4, 0).number;
+        refused |= ivshmem_msix_write(hub, WORDS, id, entry + ADDRESS, 4, 0xFEE00000).number;
+        refused |= ivshmem_msix_write(hub, WORDS, id, entry + PAYLOAD, 4, (uint32_t)(0x40 + 16 * v + id)).number;
+        refused |= ivshmem_msix_write(hub, WORDS, id, entry + CONTROL, 4, 0).number;
     }
-    refused |= ivshmem_configuration_write(hub, IVSHMEM_HUB_WORDS, id, MESSAGE_CONTROL, 2, 0x8000).number;
+    refused |= ivshmem_configuration_write(hub, WORDS, id, MESSAGE_CONTROL, 2, 0x8000).number;
     refused |= write_register(id, INTERRUPT_CONTROL, 1).reply.number;
     return refused == IVSHMEM_ACCEPTED;
 }
@@ -56,12 +62,11 @@ static int switch_on(uint64_t id)
 static void doorbell_and_state(void)
 {
     delivered("peer 0 rings vector 1 at peer 2", write_register(0, DOORBELL, 0x00020001));
-    answered("peer 2 turns one-shot on",
-             ivshmem_configuration_write(hub, IVSHMEM_HUB_WORDS, 2, PRIVILEGED_CONTROL, 1, 1));
+    answered("peer 2 turns one-shot on", ivshmem_configuration_write(hub, WORDS, 2, PRIVILEGED_CONTROL, 1, 1));
     delivered("peer 1 stores State 5", write_register(1, STATE, 5));
     delivered("peer 1 stores State 5 again", write_register(1, STATE, 5));
-    answered("peer 2 reads Interrupt Control", ivshmem_register_read(hub, IVSHMEM_HUB_WORDS, 2, INTERRUPT_CONTROL, 4));
-    answered("peer 0 reads its entry 0, data", ivshmem_msix_read(hub, IVSHMEM_HUB_WORDS, 0, PAYLOAD, 4));
+    answered("peer 2 reads Interrupt Control", ivshmem_register_read(hub, WORDS, 2, INTERRUPT_CONTROL, 4));
+    answered("peer 0 reads its entry 0, data", ivshmem_msix_read(hub, WORDS, 0, PAYLOAD, 4));
     printf("State Table entry of peer 1: %02X %02X %02X %02X\n", region[4], region[5], region[6], region[7]);
 }
 
@@ -71,37 +76,35 @@ static void shared_memory(void)
     const uint64_t output1 = TABLE + COMMON + 1 * OUTPUT;
     const uint8_t text[6] = {'m', 'o', 'r', 't', 'a', 'r'};
     uint8_t buffer[6] = {0};
-    ivshmem_section s = ivshmem_section_question(hub, IVSHMEM_HUB_WORDS, 0, output1, sizeof text);
+    ivshmem_section s = ivshmem_section_question(hub, WORDS, 0, output1, sizeof text);
 
     printf("peer 0 asks about offset %" PRIu64 ": %s, owner %" PRIu32 ", store %s\n", output1, kinds[s.kind], s.owner,
            s.store ? "yes" : "no");
     answered("peer 0 stores to peer 1's output section",
-             ivshmem_store(hub, IVSHMEM_HUB_WORDS, region, TOTAL, 0, output1, text, sizeof text));
-    answered("peer 1 stores to its own",
-             ivshmem_store(hub, IVSHMEM_HUB_WORDS, region, TOTAL, 1, output1, text, sizeof text));
+             ivshmem_store(hub, WORDS, region, TOTAL, 0, output1, text, sizeof text));
+    answered("peer 1 stores to its own", ivshmem_store(hub, WORDS, region, TOTAL, 1, output1, text, sizeof text));
     answered("peer 3 loads what peer 1 stored",
-             ivshmem_load(hub, IVSHMEM_HUB_WORDS, region, TOTAL, 3, output1, buffer, sizeof buffer));
+             ivshmem_load(hub, WORDS, region, TOTAL, 3, output1, buffer, sizeof buffer));
     printf("peer 3 has: %.6s\n", (const char *)buffer);
 }
 
 int main(void)
 {
-    answered("set-up with 65 peers", ivshmem_set_up(hub, IVSHMEM_HUB_WORDS, region, TOTAL, IVSHMEM_MAX_PEERS + 1, VECTORS, TABLE,
-                                                    COMMON, OUTPUT, 0x100000000, 1, 0x110A, 0x4106));
-    answered("set-up with 4 peers", ivshmem_set_up(hub, IVSHMEM_HUB_WORDS, region, TOTAL, PEERS, VECTORS, TABLE, COMMON,
-                                                   OUTPUT, 0x100000000, 1, 0x110A, 0x4106));
+    answered("set-up with 65 peers", set_up(WORDS, IVSHMEM_MAX_PEERS + 1));
+    answered("set-up with 4 peers, a word too few", set_up(WORDS - 1, PEERS));
+    answered("set-up with 4 peers", set_up(WORDS, PEERS));
     for (uint64_t id = 0; id < PEERS; id++)
-        if (ivshmem_connect(hub, IVSHMEM_HUB_WORDS, id).number != IVSHMEM_ACCEPTED || !switch_on(id))
+        if (ivshmem_connect(hub, WORDS, id).number != IVSHMEM_ACCEPTED || !switch_on(id))
             return 1;
-    answered("peer 0 reads vendor and device id", ivshmem_configuration_read(hub, IVSHMEM_HUB_WORDS, 0, 0, 4));
+    answered("peer 0 reads vendor and device id", ivshmem_configuration_read(hub, WORDS, 0, 0, 4));
     doorbell_and_state();
     shared_memory();
-    delivered("peer 1 is reset", ivshmem_reset(hub, IVSHMEM_HUB_WORDS, region, TOTAL, deliveries, PEERS, 1));
+    delivered("peer 1 is reset", ivshmem_reset(hub, WORDS, region, TOTAL, deliveries, PEERS, 1));
     delivered("peer 3 is disconnected, the table too short",
-              ivshmem_disconnect(hub, IVSHMEM_HUB_WORDS, region, TOTAL, deliveries, PEERS - 1, 3));
-    delivered("peer 3 is disconnected", ivshmem_disconnect(hub, IVSHMEM_HUB_WORDS, region, TOTAL, deliveries, PEERS, 3));
-    answered("peer 3 reads its id", ivshmem_register_read(hub, IVSHMEM_HUB_WORDS, 3, 0, 4));
+              ivshmem_disconnect(hub, WORDS, region, TOTAL, deliveries, PEERS - 1, 3));
+    delivered("peer 3 is disconnected", ivshmem_disconnect(hub, WORDS, region, TOTAL, deliveries, PEERS, 3));
+    answered("peer 3 reads its id", ivshmem_register_read(hub, WORDS, 3, 0, 4));
     memset(hub, 0xFF, sizeof hub);
-    answered("connect on a hub of noise", ivshmem_connect(hub, IVSHMEM_HUB_WORDS, 0));
+    answered("connect on a hub of noise", ivshmem_connect(hub, WORDS, 0));
     return 0;
 }

@@ -1,20 +1,21 @@
-/* The header's sizes are the library's: a hub of the most peers and vectors is set up and its last peer is there, one peer or one
-   vector more is refused, and so are words of another number. Prints what is not so. */
+/* The header's sizes are the library's: a hub of each size is set up in just so many words, a word less or more is refused and
+   left all zero, and so is one peer or one vector more than the most. The last peer of the largest is there, and its table has
+   a record for each peer. Prints what is not so. */
 #include <stdio.h>
 
 #include "ivshmem.h"
 
-enum { TABLE = 4096 };
+enum { TABLE = 4096, ROOM = IVSHMEM_HUB_WORDS(IVSHMEM_MAX_PEERS + 1, IVSHMEM_MAX_VECTORS + 1) + 1 };
 
-static uint32_t hub[IVSHMEM_HUB_WORDS + 1];
+static uint32_t hub[ROOM];
 static uint8_t region[TABLE];
 static ivshmem_delivery deliveries[IVSHMEM_MAX_PEERS];
 
-static int wrong(const char *what, uint32_t number, uint32_t expected)
+static int wrong(const char *what, uint64_t number, uint64_t expected)
 {
     if (number == expected)
         return 0;
-    printf("%s: answered %u and not %u\n", what, (unsigned)number, (unsigned)expected);
+    printf("%s: %u and not %u\n", what, (unsigned)number, (unsigned)expected);
     return 1;
 }
 
@@ -25,19 +26,48 @@ static uint32_t set_up(size_t words, uint64_t peers, uint64_t vectors)
 
 static uint32_t reset(size_t records, uint64_t id)
 {
-    return ivshmem_reset(hub, IVSHMEM_HUB_WORDS, region, TABLE, deliveries, records, id).reply.number;
+    return ivshmem_reset(hub, IVSHMEM_MAX_HUB_WORDS, region, TABLE, deliveries, records, id).reply.number;
+}
+
+/* A set-up that is refused, on words that hold anything: how many of them are not zero afterwards, and of those behind not as
+   they were. */
+static int refused(const char *what, size_t words, uint64_t peers, uint64_t vectors, uint32_t number)
+{
+    int changed = 0;
+
+    for (size_t i = 0; i < ROOM; i++)
+        hub[i] = 7;
+    if (wrong(what, set_up(words, peers, vectors), number))
+        return 1;
+    for (size_t i = 0; i < ROOM; i++)
+        changed += hub[i] != (i < words ? 0 : 7);
+    return wrong(what, (uint64_t)changed, 0);
+}
+
+static int size(uint64_t peers, uint64_t vectors)
+{
+    const size_t words = IVSHMEM_HUB_WORDS(peers, vectors);
+
+    return refused("a word less", words - 1, peers, vectors, IVSHMEM_UNSOUND_HUB)
+        || refused("a word more", words + 1, peers, vectors, IVSHMEM_UNSOUND_HUB)
+        || wrong("the right words", set_up(words, peers, vectors), IVSHMEM_ACCEPTED)
+        || wrong("a peer connected", ivshmem_connect(hub, words, peers - 1).number, IVSHMEM_ACCEPTED)
+        || wrong("a word less at a call", ivshmem_connect(hub, words - 1, 0).number, IVSHMEM_UNSOUND_HUB)
+        || wrong("a word more at a call", ivshmem_connect(hub, words + 1, 0).number, IVSHMEM_UNSOUND_HUB);
 }
 
 int main(void)
 {
     const uint64_t peers = IVSHMEM_MAX_PEERS, vectors = IVSHMEM_MAX_VECTORS;
-    const size_t words = IVSHMEM_HUB_WORDS;
+    const size_t words = IVSHMEM_MAX_HUB_WORDS;
     int faults = 0;
 
-    faults += wrong("a peer more", set_up(words, peers + 1, vectors), IVSHMEM_BAD_SETTING);
-    faults += wrong("a vector more", set_up(words, peers, vectors + 1), IVSHMEM_BAD_SETTING);
-    faults += wrong("a word less", set_up(words - 1, peers, vectors), IVSHMEM_UNSOUND_HUB);
-    faults += wrong("a word more", set_up(words + 1, peers, vectors), IVSHMEM_UNSOUND_HUB);
+    for (uint64_t p = 2; p <= peers; p++)
+        for (uint64_t v = 1; v <= vectors; v++)
+            faults += size(p, v);
+    faults += refused("a peer more", IVSHMEM_HUB_WORDS(peers + 1, vectors), peers + 1, vectors, IVSHMEM_BAD_SETTING);
+    faults += refused("a vector more", IVSHMEM_HUB_WORDS(peers, vectors + 1), peers, vectors + 1, IVSHMEM_BAD_SETTING);
+    faults += refused("one peer, no words", 0, 1, vectors, IVSHMEM_BAD_SETTING);
     faults += wrong("the most", set_up(words, peers, vectors), IVSHMEM_ACCEPTED);
     faults += wrong("the last peer", ivshmem_connect(hub, words, peers - 1).number, IVSHMEM_ACCEPTED);
     faults += wrong("a peer beyond it", ivshmem_connect(hub, words, peers).number, IVSHMEM_NO_SUCH_PEER);

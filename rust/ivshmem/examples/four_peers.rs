@@ -1,18 +1,21 @@
 //! Four guests on one hub: a doorbell, a state change, a one-shot interrupt and a guest that leaves.
 
-use ivshmem::{Delivery, Hub, MAX_PEERS, PeerId, Refusal, Settings, Vector, msix, register};
+use ivshmem::{Delivery, Hub, PeerId, Refusal, Settings, Vector, hub_words, msix, register};
 
-struct Host {
-    hub: Hub,
+const PEERS: u16 = 4;
+const VECTORS: u16 = 2;
+
+struct Host<'a> {
+    hub: Hub<'a>,
     region: Vec<u8>,
-    table: [Delivery; MAX_PEERS],
+    table: [Delivery; PEERS as usize],
 }
 
-impl Host {
-    fn new() -> Result<Host, Refusal> {
+impl<'a> Host<'a> {
+    fn new(words: &'a mut [u32]) -> Result<Host<'a>, Refusal> {
         let settings = Settings {
-            peers: 4,
-            vectors: 2,
+            peers: PEERS.into(),
+            vectors: VECTORS.into(),
             state_table: 4096,
             read_write: 4096,
             output: 4096,
@@ -21,8 +24,8 @@ impl Host {
             ..Settings::default()
         };
         let mut region = vec![0; settings.total().ok_or(Refusal::BadSetting)?];
-        let hub = Hub::set_up(&settings, &mut region)?;
-        Ok(Host { hub, region, table: [Delivery::default(); MAX_PEERS] })
+        let hub = Hub::set_up(words, &settings, &mut region)?;
+        Ok(Host { hub, region, table: Default::default() })
     }
 
     /// What a guest's driver does when it finds the device.
@@ -30,10 +33,10 @@ impl Host {
         self.hub.connect(peer)?;
         self.hub.configuration_write(peer, 0x04, 2, 0x0006)?;
         self.hub.configuration_write(peer, 0x62, 2, 0x8000)?;
-        for vector in 0..2 {
-            let entry = 16 * vector;
+        for vector in 0..VECTORS {
+            let entry = 16 * u64::from(vector);
             self.hub.msix_write(peer, entry + msix::ADDRESS_LOW, 4, 0xfee0_0000)?;
-            self.hub.msix_write(peer, entry + msix::DATA, 4, 0x40 + peer.0)?;
+            self.hub.msix_write(peer, entry + msix::DATA, 4, 0x40 + u32::from(peer.0))?;
             self.hub.msix_write(peer, entry + msix::CONTROL, 4, 0)?;
         }
         self.write("switches interrupts on", peer, register::INTERRUPT_CONTROL, 1)
@@ -54,14 +57,15 @@ impl Host {
 
 fn report(peer: PeerId, what: &str, delivered: &[Delivery]) {
     println!("peer {peer} {what}");
-    for Delivery { target, vector, address, payload } in delivered {
+    for Delivery { address, payload, target, vector } in delivered {
         println!("    interrupt for peer {target}: vector {vector}, message {payload:#x} to {address:#x}");
     }
 }
 
 fn main() -> Result<(), Refusal> {
-    let mut host = Host::new()?;
-    for id in 0..4 {
+    let mut words = [0; hub_words(PEERS as usize, VECTORS as usize)];
+    let mut host = Host::new(&mut words)?;
+    for id in 0..PEERS {
         host.boot(PeerId(id))?;
     }
     let ring = register::doorbell(PeerId(3), Vector(1));

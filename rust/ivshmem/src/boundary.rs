@@ -6,7 +6,7 @@
 
 use core::mem::{align_of, offset_of, size_of};
 
-use crate::{HUB_WORDS, MAX_PEERS, MAX_VECTORS, PeerId, Settings, Vector};
+use crate::{MAX_HUB_WORDS, PeerId, Settings, Vector, hub_words};
 
 /// An answer: 0 or the refusal's number, and the value read (0 where nothing is read, and for a refusal).
 #[repr(C)]
@@ -18,18 +18,19 @@ pub struct Reply {
     pub value: u32,
 }
 
-/// An interrupt for the host to inject: MSI-X vector `vector` of peer `target`, with its message address and data.
+/// An interrupt for the host to inject: MSI-X vector `vector` of peer `target`, with its message address and data. It has no
+/// padding, so that all of its 16 bytes may be handed on.
 #[repr(C)]
 #[derive(Clone, Copy, Debug, Default, PartialEq, Eq, Hash)]
 pub struct Delivery {
-    /// The peer that is interrupted.
-    pub target: PeerId,
-    /// The vector that was rung.
-    pub vector: Vector,
     /// The message address that the guest put into the vector's MSI-X entry.
     pub address: u64,
     /// The message data of the same entry.
     pub payload: u32,
+    /// The peer that is interrupted.
+    pub target: PeerId,
+    /// The vector that was rung.
+    pub vector: Vector,
 }
 
 /// An answer, and the number of records written to the delivery table. No guest may learn the count.
@@ -57,16 +58,16 @@ pub struct SectionReply {
 }
 
 const _: () = {
-    assert!(HUB_WORDS == 10 + 8 * MAX_PEERS + 4 * MAX_PEERS * MAX_VECTORS && HUB_WORDS == 4618);
+    assert!(hub_words(4, 4) == 106 && MAX_HUB_WORDS == 4618);
     assert!(size_of::<usize>() == 8, "the library is built for 64-bit machines");
-    assert!(size_of::<PeerId>() == 4 && size_of::<Vector>() == 4);
+    assert!(size_of::<PeerId>() == 2 && size_of::<Vector>() == 2);
 
     assert!(size_of::<Reply>() == 8 && align_of::<Reply>() == 4);
     assert!(offset_of!(Reply, number) == 0 && offset_of!(Reply, value) == 4);
 
-    assert!(size_of::<Delivery>() == 24 && align_of::<Delivery>() == 8);
-    assert!(offset_of!(Delivery, target) == 0 && offset_of!(Delivery, vector) == 4);
-    assert!(offset_of!(Delivery, address) == 8 && offset_of!(Delivery, payload) == 16);
+    assert!(size_of::<Delivery>() == 16 && align_of::<Delivery>() == 8);
+    assert!(offset_of!(Delivery, address) == 0 && offset_of!(Delivery, payload) == 8);
+    assert!(offset_of!(Delivery, target) == 12 && offset_of!(Delivery, vector) == 14);
 
     assert!(size_of::<Counted>() == 16 && align_of::<Counted>() == 8);
     assert!(offset_of!(Counted, reply) == 0 && offset_of!(Counted, count) == 8);
@@ -102,7 +103,8 @@ unsafe extern "C" {
 
 /// Makes `hub` a hub with nobody connected and the whole region zero.
 ///
-/// Refused with 10 where `hub` has not [`HUB_WORDS`] words; with 1 or 2, which leave the words all zero.
+/// Refused with 1; then with 10 where `hub` has not just the words that the settings ask for
+/// ([`hub_words`](crate::hub_words)); then with 2. Each of these leaves all words of `hub` zero, and the region as it was.
 pub fn set_up(hub: &mut [u32], region: &mut [u8], settings: &Settings) -> Reply {
     // SAFETY: both slices are lent for the whole call, exclusively.
     unsafe {

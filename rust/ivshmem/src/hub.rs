@@ -1,45 +1,48 @@
-//! The hub with its words, one method for each call.
+//! The hub over lent words, one method for each call.
 
 use core::fmt;
 
 use crate::raw::{self, Counted, Delivery, Reply};
-use crate::{HUB_WORDS, PeerId, Placement, Refusal, Section, Settings};
+use crate::{PeerId, Placement, Refusal, Section, Settings};
 
-/// A hub: its words, and nothing else. They are as many for every set-up, and take 18 KB. [`set_up`](Hub::set_up) makes them on
-/// the stack; a host without that room lends words of its own to [`raw::set_up`](crate::raw::set_up) and the calls beside it.
+/// A hub: words that its user owns and lends to it, as many as the set-up asks for, and nothing else. They may stand in an array
+/// of [`hub_words`](crate::hub_words) of its peers and vectors, or in a `Vec` of [`Settings::hub_words`]. A host that keeps
+/// them beside other things makes a `Hub` over them for each call, with [`from_words`](Hub::from_words), at no cost.
 ///
-/// The region and the delivery table are lent to the calls that need them. A table with [`MAX_PEERS`](crate::MAX_PEERS)
-/// records is long enough for every hub; the calls answer the part of it that they filled, in ring order.
+/// The region and the delivery table are lent to the calls that need them. A table with as many records as there are peers is
+/// long enough; the calls answer the part of it that they filled, in ring order. Set-up touches the whole region; a reset, a
+/// disconnect, and a register write that stores State write the four bytes of the peer's State Table entry; a load reads its
+/// range, and a store writes it. No call touches another byte of it.
 ///
 /// Every method answers every argument: with a value, or with the [`Refusal`] that applies.
-#[derive(Clone, PartialEq, Eq, Hash)]
-pub struct Hub {
-    words: [u32; HUB_WORDS],
+#[derive(PartialEq, Eq, Hash)]
+pub struct Hub<'a> {
+    words: &'a mut [u32],
 }
 
-impl Hub {
-    /// Sets up a hub with nobody connected and makes the whole region zero.
+impl<'a> Hub<'a> {
+    /// Makes the words a hub with nobody connected, and the whole region zero.
     ///
     /// # Errors
-    /// [`Refusal::BadSetting`] or [`Refusal::BadRegion`]; the region is then unchanged.
-    pub fn set_up(settings: &Settings, region: &mut [u8]) -> Result<Hub, Refusal> {
-        let mut words = [0; HUB_WORDS];
-        done(raw::set_up(&mut words, region, settings))?;
+    /// [`Refusal::BadSetting`]; [`Refusal::UnsoundHub`] where the words are not as many as the settings ask for;
+    /// [`Refusal::BadRegion`]. The words are then all zero, and the region is unchanged.
+    pub fn set_up(words: &'a mut [u32], settings: &Settings, region: &mut [u8]) -> Result<Hub<'a>, Refusal> {
+        done(raw::set_up(words, region, settings))?;
         Ok(Hub { words })
     }
 
-    /// Takes up a hub from words saved earlier.
+    /// Takes up a hub that was set up earlier, in these words or in those that they were copied from.
     ///
     /// Any words may be given: if they are not a sound hub, every call is refused with [`Refusal::UnsoundHub`].
     #[must_use]
-    pub const fn from_words(words: [u32; HUB_WORDS]) -> Hub {
+    pub const fn from_words(words: &'a mut [u32]) -> Hub<'a> {
         Hub { words }
     }
 
     /// The hub's words, to be saved. What they mean is the library's own affair.
     #[must_use]
-    pub const fn words(&self) -> &[u32; HUB_WORDS] {
-        &self.words
+    pub const fn words(&self) -> &[u32] {
+        self.words
     }
 
     /// The peer joins with all registers at their reset values; nobody is rung.
@@ -47,7 +50,7 @@ impl Hub {
     /// # Errors
     /// [`Refusal::UnsoundHub`], [`Refusal::NoSuchPeer`] or [`Refusal::Connected`].
     pub fn connect(&mut self, peer: PeerId) -> Result<(), Refusal> {
-        done(raw::connect(&mut self.words, id(peer)))
+        done(raw::connect(self.words, id(peer)))
     }
 
     /// The peer leaves: its registers take their reset values, its State Table entry is 0, then vector 0 is rung at every
@@ -62,7 +65,7 @@ impl Hub {
         table: &'t mut [Delivery],
         peer: PeerId,
     ) -> Result<&'t [Delivery], Refusal> {
-        let counted = raw::disconnect(&mut self.words, region, table, id(peer));
+        let counted = raw::disconnect(self.words, region, table, id(peer));
         filled(counted, table)
     }
 
@@ -77,7 +80,7 @@ impl Hub {
         table: &'t mut [Delivery],
         peer: PeerId,
     ) -> Result<&'t [Delivery], Refusal> {
-        let counted = raw::reset(&mut self.words, region, table, id(peer));
+        let counted = raw::reset(self.words, region, table, id(peer));
         filled(counted, table)
     }
 
@@ -87,7 +90,7 @@ impl Hub {
     /// [`Refusal::UnsoundHub`], [`Refusal::NoSuchPeer`], [`Refusal::NotConnected`], [`Refusal::BadWidth`],
     /// [`Refusal::Misaligned`] or [`Refusal::OutOfRange`].
     pub fn configuration_read(&self, peer: PeerId, offset: u64, width: u64) -> Result<u32, Refusal> {
-        raw::configuration_read(&self.words, id(peer), offset, width).result()
+        raw::configuration_read(self.words, id(peer), offset, width).result()
     }
 
     /// Writes the low 1, 2 or 4 bytes of `value` to the peer's configuration space; bits that can't be written stay.
@@ -95,7 +98,7 @@ impl Hub {
     /// # Errors
     /// As for [`configuration_read`](Hub::configuration_read).
     pub fn configuration_write(&mut self, peer: PeerId, offset: u64, width: u64, value: u32) -> Result<(), Refusal> {
-        done(raw::configuration_write(&mut self.words, id(peer), offset, width, value))
+        done(raw::configuration_write(self.words, id(peer), offset, width, value))
     }
 
     /// Reads 4 bytes of the peer's register region (BAR 0); with Command bit 1 off all ones.
@@ -103,7 +106,7 @@ impl Hub {
     /// # Errors
     /// As for [`configuration_read`](Hub::configuration_read).
     pub fn register_read(&self, peer: PeerId, offset: u64, width: u64) -> Result<u32, Refusal> {
-        raw::register_read(&self.words, id(peer), offset, width).result()
+        raw::register_read(self.words, id(peer), offset, width).result()
     }
 
     /// Writes 4 bytes of the peer's register region (BAR 0); with Command bit 1 off it does nothing. A store to Doorbell may
@@ -120,7 +123,7 @@ impl Hub {
         width: u64,
         value: u32,
     ) -> Result<&'t [Delivery], Refusal> {
-        let counted = raw::register_write(&mut self.words, region, table, id(peer), offset, width, value);
+        let counted = raw::register_write(self.words, region, table, id(peer), offset, width, value);
         filled(counted, table)
     }
 
@@ -129,7 +132,7 @@ impl Hub {
     /// # Errors
     /// As for [`configuration_read`](Hub::configuration_read).
     pub fn msix_read(&self, peer: PeerId, offset: u64, width: u64) -> Result<u32, Refusal> {
-        raw::msix_read(&self.words, id(peer), offset, width).result()
+        raw::msix_read(self.words, id(peer), offset, width).result()
     }
 
     /// Writes 4 bytes of the peer's MSI-X region (BAR 1); with Command bit 1 off it does nothing.
@@ -137,7 +140,7 @@ impl Hub {
     /// # Errors
     /// As for [`configuration_read`](Hub::configuration_read).
     pub fn msix_write(&mut self, peer: PeerId, offset: u64, width: u64, value: u32) -> Result<(), Refusal> {
-        done(raw::msix_write(&mut self.words, id(peer), offset, width, value))
+        done(raw::msix_write(self.words, id(peer), offset, width, value))
     }
 
     /// Which section a shared range lies in, and whether the peer may store to it.
@@ -146,13 +149,13 @@ impl Hub {
     /// [`Refusal::UnsoundHub`], [`Refusal::NoSuchPeer`], [`Refusal::NotConnected`], [`Refusal::BadWidth`] for a length of 0,
     /// or [`Refusal::OutOfRange`].
     pub fn section(&self, peer: PeerId, offset: u64, length: u64) -> Result<Placement, Refusal> {
-        let answer = raw::section(&self.words, id(peer), offset, length);
+        let answer = raw::section(self.words, id(peer), offset, length);
         answer.reply.result()?;
-        // An accepted question always names a section, so the last arm is the output kind alone.
+        // An accepted question always names a section, so the last arm is the output kind alone; its owner is a peer's id.
         let section = match answer.kind {
             1 => Section::StateTable,
             2 => Section::ReadWrite,
-            _ => Section::Output(PeerId(answer.owner)),
+            _ => Section::Output(PeerId(answer.owner as u16)),
         };
         Ok(Placement { section, may_store: answer.store == 1 })
     }
@@ -162,7 +165,7 @@ impl Hub {
     /// # Errors
     /// As for [`section`](Hub::section), and [`Refusal::BadRegion`]; the buffer is then unchanged.
     pub fn load(&self, region: &[u8], peer: PeerId, offset: u64, buffer: &mut [u8]) -> Result<(), Refusal> {
-        done(raw::load(&self.words, region, id(peer), offset, buffer))
+        done(raw::load(self.words, region, id(peer), offset, buffer))
     }
 
     /// Stores the bytes at `offset` of the region.
@@ -170,12 +173,12 @@ impl Hub {
     /// # Errors
     /// As for [`load`](Hub::load), and [`Refusal::ReadOnly`]; the region is then unchanged.
     pub fn store(&self, region: &mut [u8], peer: PeerId, offset: u64, bytes: &[u8]) -> Result<(), Refusal> {
-        done(raw::store(&self.words, region, id(peer), offset, bytes))
+        done(raw::store(self.words, region, id(peer), offset, bytes))
     }
 }
 
-// Thousands of numbers tell a reader nothing.
-impl fmt::Debug for Hub {
+// Hundreds of numbers tell a reader nothing.
+impl fmt::Debug for Hub<'_> {
     fn fmt(&self, f: &mut fmt::Formatter<'_>) -> fmt::Result {
         f.debug_struct("Hub").finish_non_exhaustive()
     }

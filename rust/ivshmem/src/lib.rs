@@ -2,7 +2,8 @@
 //!
 //! The hub joins 2 to 64 guests, each through an ivshmem v2 PCI device: a shared region in sections, a doorbell, a state word
 //! for every peer, and MSI-X interrupts. The device model is proved and linked as a static library; this crate makes it safe
-//! to call. It keeps no state of its own, allocates nothing, and needs no standard library.
+//! to call. It keeps no state of its own, allocates nothing, and needs no standard library: its user lends a hub's words, as
+//! many as the set-up asks for ([`hub_words`]).
 //!
 //! The hypervisor traps a guest's accesses to the device's three spaces and passes each to the method of the same name:
 //! configuration space to [`Hub::configuration_read`] and [`Hub::configuration_write`], BAR 0 to [`Hub::register_read`] and
@@ -15,13 +16,14 @@
 //! Two guests; the first rings vector 0 of the second.
 //!
 //! ```
-//! use ivshmem::{Delivery, Hub, MAX_PEERS, PeerId, Refusal, Settings, Vector, msix, register};
+//! use ivshmem::{Delivery, Hub, PeerId, Refusal, Settings, Vector, hub_words, msix, register};
 //!
 //! # fn main() -> Result<(), Refusal> {
 //! let settings = Settings { peers: 2, vectors: 1, state_table: 4096, output: 4096, ..Settings::default() };
+//! let mut words = [0; hub_words(2, 1)];
 //! let mut region = vec![0; settings.total().ok_or(Refusal::BadSetting)?];
-//! let mut table = [Delivery::default(); MAX_PEERS];
-//! let mut hub = Hub::set_up(&settings, &mut region)?;
+//! let mut table = [Delivery::default(); 2];
+//! let mut hub = Hub::set_up(&mut words, &settings, &mut region)?;
 //!
 //! let (first, second) = (PeerId(0), PeerId(1));
 //! for peer in [first, second] {
@@ -40,7 +42,7 @@
 //! // The first guest rings; the host gets the interrupt to inject.
 //! let doorbell = register::doorbell(second, Vector(0));
 //! let delivered = hub.register_write(&mut region, &mut table, first, register::DOORBELL, 4, doorbell)?;
-//! assert_eq!(delivered, [Delivery { target: second, vector: Vector(0), address: 0xfee0_0000, payload: 0x41 }]);
+//! assert_eq!(delivered, [Delivery { address: 0xfee0_0000, payload: 0x41, target: second, vector: Vector(0) }]);
 //!
 //! // A guest stores to its own output section, and not to the other's.
 //! hub.store(&mut region, first, 4096, b"hello")?;
@@ -68,8 +70,8 @@ pub use types::{PeerId, Placement, Section, Settings, Vector};
 pub const MAX_PEERS: usize = 64;
 /// The most vectors that a peer can have.
 pub const MAX_VECTORS: usize = 16;
-/// The words of a hub.
-pub const HUB_WORDS: usize = 10 + 8 * MAX_PEERS + 4 * MAX_PEERS * MAX_VECTORS;
+/// The words of the largest hub.
+pub const MAX_HUB_WORDS: usize = hub_words(MAX_PEERS, MAX_VECTORS);
 /// Bytes of a peer's configuration space.
 pub const CONFIGURATION_BYTES: u64 = 256;
 /// Bytes of a peer's register region, BAR 0.
@@ -77,10 +79,24 @@ pub const REGISTER_BYTES: u64 = 4096;
 /// Bytes of a peer's MSI-X region, BAR 1.
 pub const MSIX_BYTES: u64 = 4096;
 
+/// How many words a hub of so many peers and vectors has: no more and no fewer are taken. For any numbers, also such as set-up
+/// refuses; a sum that does not fit is the largest number.
+///
+/// ```
+/// let words = [0u32; ivshmem::hub_words(4, 4)];
+/// assert_eq!(words.len(), 106);
+/// ```
+#[must_use]
+pub const fn hub_words(peers: usize, vectors: usize) -> usize {
+    let registers = peers.saturating_mul(8);
+    let entries = peers.saturating_mul(vectors).saturating_mul(4);
+    registers.saturating_add(entries).saturating_add(10)
+}
+
 /// The C calls over slices of any length, with their plain answers.
 ///
-/// [`Hub`] is built on these. They are for a host that keeps the words in memory of its own, and for tests: a hub, region or
-/// table of a wrong length is refused like any other wrong argument.
+/// [`Hub`] is built on these. They take an id as the library does, in 64 bits, and a hub, region or table of a wrong length is
+/// refused like any other wrong argument.
 pub mod raw {
     pub use crate::boundary::{
         Counted, Delivery, Reply, SectionReply, configuration_read, configuration_write, connect, disconnect, load,
@@ -103,10 +119,10 @@ pub mod register {
     /// The peer's state word; a store rings vector 0 of every other peer.
     pub const STATE: u64 = 0x10;
 
-    /// The value to store to the Doorbell to ring a peer's vector. Only the low 16 bits of either number fit.
+    /// The value to store to the Doorbell to ring a peer's vector.
     #[must_use]
     pub const fn doorbell(target: PeerId, vector: Vector) -> u32 {
-        target.0 << 16 | vector.0 & 0xffff
+        (target.0 as u32) << 16 | vector.0 as u32
     }
 }
 

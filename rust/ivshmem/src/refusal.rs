@@ -5,11 +5,11 @@ use core::fmt;
 
 use crate::raw::Reply;
 
-/// Why a call was refused. A refused call has changed nothing and delivered nothing; only a set-up that is
-/// refused for its numbers or its region leaves words that are all zero.
+/// Why a call was refused. A refused call has changed nothing and delivered nothing; only a refused set-up leaves all of the
+/// words that it was lent zero.
 ///
-/// Where several reasons apply, the first in this order is given: [`UnsoundHub`](Refusal::UnsoundHub),
-/// [`BadSetting`](Refusal::BadSetting), [`BadRegion`](Refusal::BadRegion), [`ShortTable`](Refusal::ShortTable),
+/// Where several reasons apply, the first in this order is given: [`BadSetting`](Refusal::BadSetting), which set-up alone
+/// gives, [`UnsoundHub`](Refusal::UnsoundHub), [`BadRegion`](Refusal::BadRegion), [`ShortTable`](Refusal::ShortTable),
 /// [`NoSuchPeer`](Refusal::NoSuchPeer), [`NotConnected`](Refusal::NotConnected) or [`Connected`](Refusal::Connected),
 /// [`BadWidth`](Refusal::BadWidth), [`Misaligned`](Refusal::Misaligned), [`OutOfRange`](Refusal::OutOfRange),
 /// [`ReadOnly`](Refusal::ReadOnly).
@@ -34,7 +34,7 @@ pub enum Refusal {
     OutOfRange = 8,
     /// 9: a store to the State Table or to another peer's output section.
     ReadOnly = 9,
-    /// 10: the words handed in are not a sound hub.
+    /// 10: the words handed in are not a sound hub; at set-up, they are not as many as the settings ask for.
     UnsoundHub = 10,
     /// 11: the delivery table has fewer records than there are peers.
     ShortTable = 11,
@@ -81,7 +81,7 @@ impl Refusal {
             Refusal::Misaligned => "the offset is not a multiple of the width",
             Refusal::OutOfRange => "the range is not whole inside one space or section",
             Refusal::ReadOnly => "the peer may not store to this section",
-            Refusal::UnsoundHub => "the words are not a sound hub",
+            Refusal::UnsoundHub => "the words are not a sound hub, or not as many as the set-up asks for",
             Refusal::ShortTable => "the delivery table has fewer records than there are peers",
         }
     }

@@ -2,15 +2,17 @@
 
 use core::fmt;
 
+use crate::{MAX_PEERS, MAX_VECTORS, hub_words};
+
 /// A peer's id, from 0.
 #[repr(transparent)]
 #[derive(Clone, Copy, Debug, Default, PartialEq, Eq, PartialOrd, Ord, Hash)]
-pub struct PeerId(pub u32);
+pub struct PeerId(pub u16);
 
 /// An MSI-X vector's number, from 0.
 #[repr(transparent)]
 #[derive(Clone, Copy, Debug, Default, PartialEq, Eq, PartialOrd, Ord, Hash)]
-pub struct Vector(pub u32);
+pub struct Vector(pub u16);
 
 impl fmt::Display for PeerId {
     fn fmt(&self, f: &mut fmt::Formatter<'_>) -> fmt::Result {
@@ -55,6 +57,15 @@ impl Settings {
         let outputs = self.peers.checked_mul(self.output)?;
         let total = self.state_table.checked_add(self.read_write)?.checked_add(outputs)?;
         usize::try_from(total).ok()
+    }
+
+    /// How many words a hub with these settings is lent: [`hub_words`](crate::hub_words) of its peers and vectors. Nothing
+    /// where there are more of them than a hub can have, which set-up refuses.
+    #[must_use]
+    pub fn hub_words(&self) -> Option<usize> {
+        let peers = usize::try_from(self.peers).ok().filter(|&peers| peers <= MAX_PEERS)?;
+        let vectors = usize::try_from(self.vectors).ok().filter(|&vectors| vectors <= MAX_VECTORS)?;
+        Some(hub_words(peers, vectors))
     }
 }
 

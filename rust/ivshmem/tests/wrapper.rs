@@ -4,8 +4,8 @@ use std::error::Error;
 
 use ivshmem::raw::{self, Reply};
 use ivshmem::{
-    CONFIGURATION_BYTES, Delivery, HUB_WORDS, Hub, MAX_PEERS, MAX_VECTORS, MSIX_BYTES, PeerId, Placement,
-    REGISTER_BYTES, Refusal, Section, Settings, Vector, msix, register,
+    CONFIGURATION_BYTES, Delivery, Hub, MAX_HUB_WORDS, MAX_PEERS, MAX_VECTORS, MSIX_BYTES, PeerId, Placement,
+    REGISTER_BYTES, Refusal, Section, Settings, Vector, hub_words, msix, register,
 };
 
 const ZERO: PeerId = PeerId(0);
@@ -22,21 +22,25 @@ const SETTINGS: Settings = Settings {
     subsystem: 0x4106,
 };
 
+const WORDS: usize = hub_words(3, 2);
+/// What words hold before a set-up.
+const ANY: [u32; WORDS] = [7; WORDS];
+
 /// A hub with peers 0 and 1 connected, its region and a table.
-struct Host {
-    hub: Hub,
+struct Host<'a> {
+    hub: Hub<'a>,
     region: Vec<u8>,
-    table: [Delivery; MAX_PEERS],
+    table: [Delivery; 3],
 }
 
-impl Host {
-    fn new() -> Host {
+impl<'a> Host<'a> {
+    fn new(words: &'a mut [u32]) -> Host<'a> {
         let mut region = vec![0xee; SETTINGS.total().unwrap()];
-        let mut hub = Hub::set_up(&SETTINGS, &mut region).unwrap();
+        let mut hub = Hub::set_up(words, &SETTINGS, &mut region).unwrap();
         assert!(region.iter().all(|&byte| byte == 0));
         hub.connect(ZERO).unwrap();
         hub.connect(ONE).unwrap();
-        Host { hub, region, table: [Delivery::default(); MAX_PEERS] }
+        Host { hub, region, table: Default::default() }
     }
 
     fn write(&mut self, peer: PeerId, offset: u64, value: u32) -> Result<&[Delivery], Refusal> {
@@ -57,7 +61,7 @@ impl Host {
 }
 
 fn delivery(target: PeerId, payload: u32) -> Delivery {
-    Delivery { target, vector: Vector(0), address: 0x1_fee0_0000, payload }
+    Delivery { address: 0x1_fee0_0000, payload, target, vector: Vector(0) }
 }
 
 #[test]
@@ -88,32 +92,66 @@ fn totals() {
 }
 
 #[test]
-fn set_up_refused() {
-    let mut region = vec![0xee; SETTINGS.total().unwrap()];
-    let few = Settings { peers: 1, ..SETTINGS };
-    assert_eq!(Hub::set_up(&few, &mut region).unwrap_err(), Refusal::BadSetting);
-    assert_eq!(Hub::set_up(&SETTINGS, &mut region[1..]).unwrap_err(), Refusal::BadRegion);
-    assert!(region.iter().all(|&byte| byte == 0xee));
+fn numbers_of_words() {
+    assert_eq!(hub_words(4, 4), 10 + 8 * 4 + 4 * 4 * 4);
+    assert_eq!(hub_words(0, usize::MAX), 10);
+    for most in [(usize::MAX, 0), (usize::MAX, usize::MAX), (1 << 32, 1 << 32)] {
+        assert_eq!(hub_words(most.0, most.1), usize::MAX);
+    }
+    let words = |peers, vectors| Settings { peers, vectors, ..SETTINGS }.hub_words();
+    assert_eq!(SETTINGS.hub_words(), Some(WORDS));
+    assert_eq!(words(64, 16), Some(MAX_HUB_WORDS));
+    for (peers, vectors) in [(65, 1), (2, 17), (u64::MAX, 0), (0, u64::MAX)] {
+        assert_eq!(words(peers, vectors), None);
+    }
 }
 
-/// The crate's sizes are the library's: the most is taken, one more is not, and a hub has just so many words.
+#[test]
+fn set_up_refused() {
+    let mut region = vec![0xee; SETTINGS.total().unwrap()];
+    let (whole, few) = (region.len(), Settings { peers: 1, ..SETTINGS });
+    for (words, settings, bytes, refusal) in [
+        (WORDS, few, whole, Refusal::BadSetting),
+        (WORDS - 1, few, whole, Refusal::BadSetting),
+        (0, few, 0, Refusal::BadSetting),
+        (WORDS - 1, SETTINGS, whole, Refusal::UnsoundHub),
+        (WORDS + 1, SETTINGS, whole - 1, Refusal::UnsoundHub),
+        (MAX_HUB_WORDS, SETTINGS, whole, Refusal::UnsoundHub),
+        (0, SETTINGS, 0, Refusal::UnsoundHub),
+        (WORDS, SETTINGS, whole - 1, Refusal::BadRegion),
+    ] {
+        let mut lent = vec![7; words];
+        assert_eq!(Hub::set_up(&mut lent, &settings, &mut region[..bytes]).unwrap_err(), refusal);
+        assert_eq!(lent, vec![0; words]);
+        assert!(region.iter().all(|&byte| byte == 0xee));
+    }
+}
+
+/// The crate's sizes are the library's: a hub of each size has just so many words, the most is taken, one more is not.
 #[test]
 fn sizes() {
-    let most = Settings { peers: MAX_PEERS as u64, vectors: MAX_VECTORS as u64, ..SETTINGS };
-    let mut region = vec![0; most.total().unwrap()];
-    assert!(Hub::set_up(&most, &mut region).is_ok());
-    for more in [Settings { peers: most.peers + 1, ..most }, Settings { vectors: most.vectors + 1, ..most }] {
-        let mut region = vec![0; more.total().unwrap()];
-        assert_eq!(Hub::set_up(&more, &mut region).unwrap_err(), Refusal::BadSetting);
-    }
-    for (words, number) in [(HUB_WORDS - 1, 10), (HUB_WORDS, 0), (HUB_WORDS + 1, 10)] {
-        assert_eq!(raw::set_up(&mut vec![0; words], &mut region, &most).number, number);
+    let sized = |peers: usize, vectors: usize| Settings {
+        peers: peers as u64,
+        vectors: vectors as u64,
+        read_write: 0,
+        output: 0,
+        ..SETTINGS
+    };
+    let mut region = [0; 4096];
+    for (peers, vectors) in (0..=MAX_PEERS + 1).flat_map(|peers| (0..=MAX_VECTORS + 1).map(move |v| (peers, v))) {
+        let right = hub_words(peers, vectors);
+        let taken = (2..=MAX_PEERS).contains(&peers) && (1..=MAX_VECTORS).contains(&vectors);
+        for (words, number) in [(right - 1, 10), (right + 1, 10), (right, 0)] {
+            let reply = raw::set_up(&mut vec![7; words], &mut region, &sized(peers, vectors));
+            assert_eq!(reply.number, if taken { number } else { 1 }, "{peers} by {vectors}, {words} words");
+        }
     }
 }
 
 #[test]
 fn configuration() {
-    let mut host = Host::new();
+    let mut words = ANY;
+    let mut host = Host::new(&mut words);
     assert_eq!(host.hub.configuration_read(ONE, 0x00, 4), Ok(0x4106_110a));
     assert_eq!(host.hub.configuration_read(ONE, 0x09, 1), Ok(0x34));
     assert_eq!(host.hub.configuration_read(ONE, 0x5c, 4), Ok(8));
@@ -129,7 +167,8 @@ fn configuration() {
 
 #[test]
 fn registers_and_entries() {
-    let mut host = Host::new();
+    let mut words = ANY;
+    let mut host = Host::new(&mut words);
     assert_eq!(host.hub.register_read(ONE, register::ID, 4), Ok(0xffff_ffff));
     assert_eq!(host.hub.msix_read(ONE, msix::CONTROL, 4), Ok(0xffff_ffff));
     host.switch_on(ONE, 0x41);
@@ -148,7 +187,8 @@ fn registers_and_entries() {
 
 #[test]
 fn deliveries() {
-    let mut host = Host::new();
+    let mut words = ANY;
+    let mut host = Host::new(&mut words);
     host.switch_on(ZERO, 0x40);
     host.switch_on(ONE, 0x41);
     let ring = register::doorbell(ONE, Vector(0));
@@ -169,18 +209,20 @@ fn deliveries() {
 
 #[test]
 fn lent_memory_refused() {
-    let mut host = Host::new();
+    let mut words = ANY;
+    let mut host = Host::new(&mut words);
     let (region, table) = (&mut host.region[..], &mut host.table[..]);
     assert_eq!(host.hub.reset(&mut region[1..], table, ZERO), Err(Refusal::BadRegion));
     assert_eq!(host.hub.reset(region, &mut table[..2], ZERO), Err(Refusal::ShortTable));
     assert_eq!(host.hub.disconnect(region, table, PeerId(2)), Err(Refusal::NotConnected));
-    assert_eq!(host.hub.disconnect(region, table, PeerId(u32::MAX)), Err(Refusal::NoSuchPeer));
+    assert_eq!(host.hub.disconnect(region, table, PeerId(u16::MAX)), Err(Refusal::NoSuchPeer));
     assert_eq!(host.hub.register_write(region, table, ZERO, 2, 4, 0), Err(Refusal::Misaligned));
 }
 
 #[test]
 fn shared_bytes() {
-    let mut host = Host::new();
+    let mut words = ANY;
+    let mut host = Host::new(&mut words);
     let (region, hub) = (&mut host.region[..], &host.hub);
     let own = 4096 + 8192;
     for (offset, section, may_store) in [
@@ -208,36 +250,57 @@ fn shared_bytes() {
 
 #[test]
 fn saved_and_restored() {
-    let mut host = Host::new();
+    let mut words = ANY;
+    let mut host = Host::new(&mut words);
     host.switch_on(ONE, 0x41);
-    let mut restored = Hub::from_words(*host.hub.words());
+    let mut saved = host.hub.words().to_vec();
+    let mut restored = Hub::from_words(&mut saved);
     assert_eq!(restored, host.hub);
     assert_eq!(restored.msix_read(ONE, msix::DATA, 4), Ok(0x41));
     assert_eq!(restored.connect(PeerId(2)), Ok(()));
     assert_ne!(restored, host.hub);
 
-    let mut nothing = Hub::from_words([0; HUB_WORDS]);
-    assert_eq!(nothing.connect(ZERO), Err(Refusal::UnsoundHub));
-    assert_eq!(nothing.section(ZERO, 0, 1), Err(Refusal::UnsoundHub));
-    assert_eq!(nothing.words(), &[0; HUB_WORDS]);
+    // The words are where they were, and another hub takes them up.
+    assert_eq!(Hub::from_words(&mut saved).connect(PeerId(2)), Err(Refusal::Connected));
+    assert_eq!(Hub::from_words(&mut words).msix_read(ONE, msix::DATA, 4), Ok(0x41));
+}
+
+#[test]
+fn any_words_adopted() {
+    for length in [0, 1, 2, 10, WORDS, MAX_HUB_WORDS] {
+        let mut words = vec![0; length];
+        let mut nothing = Hub::from_words(&mut words);
+        assert_eq!(nothing.connect(ZERO), Err(Refusal::UnsoundHub));
+        assert_eq!(nothing.section(ZERO, 0, 1), Err(Refusal::UnsoundHub));
+        assert_eq!(nothing.words(), vec![0; length]);
+    }
+    let mut words = ANY;
+    Host::new(&mut words);
+    let longer = [&words[..], &[0]].concat();
+    for (length, refusal) in
+        [(WORDS, Refusal::Connected), (WORDS - 1, Refusal::UnsoundHub), (WORDS + 1, Refusal::UnsoundHub)]
+    {
+        assert_eq!(Hub::from_words(&mut longer[..length].to_vec()).connect(ZERO), Err(refusal));
+    }
 }
 
 #[test]
 fn raw_calls_take_any_length() {
-    let mut host = Host::new();
-    for length in [0, 1, HUB_WORDS - 1, HUB_WORDS + 1] {
+    let mut words = ANY;
+    let mut host = Host::new(&mut words);
+    for length in [0, 1, 2, 10, WORDS, MAX_HUB_WORDS] {
         let mut words = vec![7; length];
-        assert_eq!(raw::set_up(&mut words, &mut host.region, &SETTINGS).number, 10);
         assert_eq!(raw::connect(&mut words, 0).number, 10);
         assert_eq!(raw::disconnect(&mut words, &mut [], &mut [], 0).reply.number, 10);
         assert_eq!(raw::section(&words, 0, 0, 1), raw::SectionReply { reply: refused(10), ..Default::default() });
         assert_eq!(words, vec![7; length]);
     }
-    let mut words = *host.hub.words();
+    let mut words = host.hub.words().to_vec();
     assert_eq!(raw::reset(&mut words, &mut [], &mut [], 0).reply, refused(2));
     assert_eq!(raw::reset(&mut words, &mut host.region, &mut [], 0).reply, refused(11));
+    assert_eq!(raw::reset(&mut words, &mut host.region, &mut host.table, 1 << 16).reply, refused(3));
     assert_eq!(raw::load(&words, &[], 0, 0, &mut []), refused(2));
-    assert_eq!(words, *host.hub.words());
+    assert_eq!(words, host.hub.words());
 }
 
 fn refused(number: u32) -> Reply {
@@ -247,5 +310,5 @@ fn refused(number: u32) -> Reply {
 #[test]
 fn printed() {
     assert_eq!(format!("{ONE} {}", Vector(3)), "1 3");
-    assert_eq!(format!("{:?}", Hub::from_words([0; HUB_WORDS])), "Hub { .. }");
+    assert_eq!(format!("{:?}", Hub::from_words(&mut [0; 10])), "Hub { .. }");
 }
