@@ -2,7 +2,7 @@
 
 use std::fmt;
 
-use ivshmem::{HUB_WORDS, MAX_PEERS, Settings};
+use ivshmem::{MAX_PEERS, Settings};
 
 /// Records of the delivery table that a call is usually lent.
 pub const USUAL_RECORDS: usize = MAX_PEERS;
@@ -140,8 +140,8 @@ impl fmt::Display for Call {
 /// How much memory a call is lent.
 #[derive(Clone, Copy, Debug, PartialEq, Eq)]
 pub struct Lengths {
-    /// Words of the hub.
-    pub words: usize,
+    /// Words of the hub beyond the right number of them.
+    pub words: i64,
     /// Bytes of the region beyond the right number of them.
     pub region: i64,
     /// Records of the delivery table.
@@ -150,13 +150,13 @@ pub struct Lengths {
 
 impl Lengths {
     /// Nothing is wrong with these.
-    pub const USUAL: Lengths = Lengths { words: HUB_WORDS, region: 0, records: USUAL_RECORDS };
+    pub const USUAL: Lengths = Lengths { words: 0, region: 0, records: USUAL_RECORDS };
 }
 
 impl fmt::Display for Lengths {
     fn fmt(&self, f: &mut fmt::Formatter<'_>) -> fmt::Result {
-        if self.words != HUB_WORDS {
-            write!(f, " [{} words lent]", self.words)?;
+        if self.words != 0 {
+            write!(f, " [{:+} words]", self.words)?;
         }
         if self.region != 0 {
             write!(f, " [region {:+} bytes]", self.region)?;

@@ -2,9 +2,9 @@
 
 use std::fmt;
 
-use ivshmem::{HUB_WORDS, Settings};
+use ivshmem::Settings;
 
-use crate::call::Event;
+use crate::call::{Call, Event};
 use crate::count::Counts;
 use crate::generate::Generator;
 use crate::layout::decode;
@@ -32,7 +32,7 @@ impl<S: Subject> Pair<S> {
     }
 
     /// Puts other words in the hub's place, and makes the region as long as the settings ask.
-    pub fn put(&mut self, words: &[u32; HUB_WORDS], settings: &Settings) {
+    pub fn put(&mut self, words: &[u32], settings: &Settings) {
         for world in [&mut self.ours, &mut self.models] {
             world.fit(settings);
             world.set_hub_words(words);
@@ -54,6 +54,11 @@ impl<S: Subject> Pair<S> {
         {
             return Err(format!("the answer is {ours}; the model's is {models}"));
         }
+        if let (Event::Call(Call::SetUp(_), _), Some(Answer { number: 1.., .. })) = (event, &ours)
+            && self.ours.lent_words().iter().any(|&word| word != 0)
+        {
+            return Err("a refused set-up leaves words that are not zero".into());
+        }
         self.ours.difference(&self.models).map_or(Ok(models), Err)
     }
 
@@ -61,7 +66,7 @@ impl<S: Subject> Pair<S> {
         if let Some(event) = generator.planned() {
             return event;
         }
-        let hub = decode(self.models.hub_words()).expect("the host's words are as many as a hub has");
+        let hub = decode(self.models.hub_words()).unwrap_or_default();
         generator.next(&hub, self.models.total())
     }
 }

@@ -1,13 +1,14 @@
 //! What a run has covered, as a table, and the least that it must have covered.
 
+use std::collections::BTreeSet;
 use std::fmt;
 
-use ivshmem::{Settings, register};
+use ivshmem::{MAX_HUB_WORDS, Settings, register};
 
 use crate::call::{Call, KINDS};
 use crate::generate::{FEW_PEERS, FEW_VECTORS};
 use crate::hub::{Block, MAX_PEERS, MAX_VECTORS, Numbers, Ring};
-use crate::subject::{Answer, Model};
+use crate::subject::{Answer, Handed, Model};
 
 /// The numbers that each kind of call can answer, in the order of [`KINDS`].
 pub const POSSIBLE: [&[u32]; 13] = [
@@ -26,10 +27,11 @@ pub const POSSIBLE: [&[u32]; 13] = [
     &[0, 2, 3, 4, 6, 8, 9, 10],
 ];
 
-/// The refusals that can apply beside one that is given: with these pairs the order of the checks is seen.
+/// The refusals that can apply beside one that is given: with these pairs the order of the checks is seen. Where 1 is given,
+/// it is a set-up that is refused; where 10 is given it mostly is another call, and [`WORDS`] has the set-ups.
 pub const BESIDE: [(u32, &[u32]); 8] = [
+    (1, &[10, 2]),
     (10, &[2, 11, 3, 4, 5, 6, 7, 8, 9]),
-    (1, &[2]),
     (2, &[11, 3, 4, 6, 7, 8, 9]),
     (11, &[3, 4, 6, 7, 8]),
     (3, &[6, 7, 8, 9]),
@@ -85,6 +87,35 @@ pub const SIZES: [(&str, u64); 20] = [
 /// How many of [`SIZES`], from the first on, are calls on large hubs.
 pub const ON_LARGE_HUBS: usize = 5;
 
+/// What is counted of the words that calls are lent, and how often it must be seen in a million calls of random histories. But
+/// for set-ups, these are calls refused with 10 because the words are not as many as their first two ask for.
+pub const WORDS: [(&str, u64); 22] = [
+    ("calls on a word less than asked for", 2_000),
+    ("calls on a word more than asked for", 2_000),
+    ("calls on a sound hub and a word behind it", 2_000),
+    ("calls on a sound hub of fewer than 64 by 16, in 4618 words", 300),
+    ("calls on 0 to 10 words", 1_000),
+    ("calls on hubs sound but for word 0", 700),
+    ("calls on hubs sound but for word 0, which is above 2^16", 400),
+    ("calls on hubs sound but for word 1", 700),
+    ("calls on hubs sound but for word 1, which is above 2^16", 400),
+    ("set-ups refused with 1 on the words that they ask for", 700),
+    ("set-ups refused with 1 on others", 1_000),
+    ("set-ups refused with 1 on others and on another region", 700),
+    ("set-ups refused with 10 on a word less", 200),
+    ("set-ups refused with 10 on a word more", 200),
+    ("set-ups refused with 10 on 0 to 10 words", 100),
+    ("set-ups of fewer than 64 by 16 refused with 10 on 4618 words", 50),
+    ("set-ups refused with 10 on another region too", 300),
+    ("set-ups refused with 1 that found words not zero", 1_000),
+    ("set-ups refused with 1 that found a sound hub", 300),
+    ("set-ups refused with 10 that found words not zero", 400),
+    ("set-ups refused with 2 that found words not zero", 200),
+    ("set-ups refused with 2 that found a sound hub", 100),
+];
+/// How many of [`WORDS`], from the first on, are calls but set-ups.
+pub const ON_WRONG_WORDS: usize = 9;
+
 /// Counts of calls by kind and number, of rings by outcome, and of what is at the edges of the sizes.
 #[derive(Clone, Debug, Default)]
 pub struct Counts {
@@ -104,6 +135,10 @@ pub struct Counts {
     pub lost_otherwise: u64,
     /// In the order of [`SIZES`].
     pub sizes: [u64; SIZES.len()],
+    /// In the order of [`WORDS`].
+    pub words: [u64; WORDS.len()],
+    /// The numbers of peers and vectors of hubs that a call was taken on.
+    pub hubs: BTreeSet<(u64, u64)>,
 }
 
 impl Counts {
@@ -119,6 +154,12 @@ impl Counts {
         self.several += u64::from(answer.count > 1);
         for (count, holds) in self.sizes.iter_mut().zip(at_sizes(call, answer, model)) {
             *count += u64::from(holds);
+        }
+        for (count, holds) in self.words.iter_mut().zip(at_words(call, answer, model)) {
+            *count += u64::from(holds);
+        }
+        if answer.number == 0 {
+            self.hubs.insert((model.numbers.peers, model.numbers.vectors));
         }
         for also in &model.also {
             self.beside[answer.number as usize][*also as usize] += 1;
@@ -141,8 +182,8 @@ impl Counts {
         }
     }
 
-    /// What is not covered `least` times, or of [`SIZES`] as often as they ask, or should never have been answered, in words;
-    /// empty is good.
+    /// What is not covered `least` times, or of [`SIZES`] and [`WORDS`] as often as they ask, or should never have been
+    /// answered, in words; empty is good.
     #[must_use]
     pub fn gaps(&self, least: u64) -> Vec<String> {
         let mut gaps = Vec::new();
@@ -164,7 +205,8 @@ impl Counts {
         let others = [("delivered", self.delivered), ("one-shot", self.one_shot), ("several", self.several)];
         let few = rings.chain(others).filter(|&(_, count)| count < least);
         gaps.extend(few.map(|(name, count)| format!("rings, {name}: {count}")));
-        let few = SIZES.iter().zip(self.sizes).filter(|((_, least), count)| count * 1_000_000 < least * self.total());
+        let named = SIZES.iter().zip(self.sizes).chain(WORDS.iter().zip(self.words));
+        let few = named.filter(|((_, least), count)| count * 1_000_000 < least * self.total());
         gaps.extend(few.map(|((name, _), count)| format!("{name}: {count}")));
         gaps
     }
@@ -200,6 +242,42 @@ fn at_sizes(call: &Call, answer: &Answer, model: &Model) -> [bool; SIZES.len()] 
         matches!(call, Call::SetUp(Settings { peers: PEERS, vectors: VECTORS, .. })) && taken,
         matches!(call, Call::SetUp(Settings { peers: TOO_MANY_PEERS, .. })) && answer.number == 1,
         matches!(call, Call::SetUp(Settings { vectors: TOO_MANY_VECTORS, .. })) && answer.number == 1,
+    ]
+}
+
+/// Which of [`WORDS`] a call is.
+fn at_words(call: &Call, answer: &Answer, model: &Model) -> [bool; WORDS.len()] {
+    let Handed { words, asked, in_use, sound, sound_in_front, but_for } = model.handed;
+    let (lent, number) = (words as u128, answer.number);
+    let largest = words == MAX_HUB_WORDS;
+    let set_up = matches!(call, Call::SetUp(_));
+    let wrong = !set_up && lent != asked;
+    let refused = |given: u32| set_up && number == given;
+    let another_region = model.also.contains(&2);
+    let huge = |word: Option<u32>| word.is_some_and(|number| number >= 1 << 16);
+    [
+        wrong && lent + 1 == asked,
+        wrong && lent == asked + 1,
+        sound_in_front && lent == asked + 1,
+        sound_in_front && largest,
+        wrong && lent <= 10,
+        but_for[0].is_some(),
+        huge(but_for[0]),
+        but_for[1].is_some(),
+        huge(but_for[1]),
+        refused(1) && lent == asked,
+        refused(1) && lent != asked,
+        refused(1) && lent != asked && another_region,
+        refused(10) && lent + 1 == asked,
+        refused(10) && lent == asked + 1,
+        refused(10) && lent <= 10,
+        refused(10) && largest,
+        refused(10) && another_region,
+        refused(1) && in_use,
+        refused(1) && sound,
+        refused(10) && in_use,
+        refused(2) && in_use,
+        refused(2) && sound,
     ]
 }
 
@@ -249,7 +327,9 @@ impl fmt::Display for Counts {
             writeln!(f, "rings lost only for {name:<20} {count:>8}")?;
         }
         writeln!(f, "rings lost for several reasons: {}", self.lost_otherwise)?;
-        let sizes = SIZES.iter().zip(self.sizes).map(|((name, _), count)| format!("{name:<58} {count:>8}"));
-        f.write_str(&sizes.collect::<Vec<_>>().join("\n"))
+        for ((name, _), count) in SIZES.iter().zip(self.sizes).chain(WORDS.iter().zip(self.words)) {
+            writeln!(f, "{name:<60} {count:>8}")?;
+        }
+        write!(f, "sizes of hubs that calls were taken on: {}", self.hubs.len())
     }
 }

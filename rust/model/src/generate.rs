@@ -2,12 +2,13 @@
 
 use std::collections::VecDeque;
 
-use ivshmem::{HUB_WORDS, Settings};
+use ivshmem::{MAX_HUB_WORDS, Settings};
 
 use crate::call::{Call, Event, KINDS, Lengths, USUAL_RECORDS};
 use crate::hub::{Hub, MAX_PEERS, MAX_VECTORS, Numbers};
+use crate::layout::hub_words;
 use crate::random::Random;
-use crate::world::{LONGEST_REGION, MOST_RECORDS, MOST_WORDS};
+use crate::world::{LONGEST_REGION, MOST_RECORDS};
 
 const PAGE: u64 = 4096;
 const TOP: u64 = u64::MAX;
@@ -67,8 +68,8 @@ impl Generator {
         match self.random.below(1000) {
             0..2 => self.plan_refused_set_up(hub, total),
             2..3 => self.plan_large_hub(),
-            3..7 => self.plan_damage(hub, total),
-            7..8 => self.plan_set_up(),
+            3..9 => self.plan_damage(hub, total),
+            9..10 => self.plan_set_up(),
             _ => {}
         }
         if let Some(event) = self.planned() {
@@ -89,7 +90,7 @@ impl Generator {
         let peers = peers_of(hub);
         let mut lengths = Lengths::USUAL;
         if self.random.chance(1, 40) {
-            lengths.words = self.random.pick(&[0, 1, 10, HUB_WORDS - 1, HUB_WORDS + 1, MOST_WORDS]);
+            lengths.words = self.wrong_words(&hub.numbers);
         }
         if self.slips(40) {
             lengths.region = self.random.pick(&[-1, 1, -4096, 4, 64, -(total as i64), 8 - total as i64]);
@@ -102,6 +103,24 @@ impl Generator {
             lengths.records = self.random.pick(&[peers, longer]) as usize;
         }
         lengths
+    }
+
+    /// How many words more than a hub with these numbers has: one, or one fewer, so that a few are left, as the largest hub or
+    /// another has. Now and then it is the right number all the same.
+    fn wrong_words(&mut self, numbers: &Numbers) -> i64 {
+        let other =
+            Numbers { peers: self.random.below(PEERS + 1), vectors: self.random.below(VECTORS + 1), ..*numbers };
+        let (few, other) = (self.random.below(11) as i64, hub_words(&other) as i64);
+        let more = self.random.pick(&[few, few, MAX_HUB_WORDS as i64, other]) - hub_words(numbers).min(1 << 32) as i64;
+        self.random.pick(&[-1, 1, more])
+    }
+
+    /// A set-up is lent what it asks for, or other words, another region, or both.
+    fn set_up_lengths(&mut self, settings: &Settings) -> Lengths {
+        let words = self.wrong_words(&settings.into());
+        let region = self.random.pick(&[-1, 1, 64, -4096]);
+        let (words, region) = self.random.pick(&[(0, 0), (words, 0), (0, region), (words, region)]);
+        Lengths { words, region, ..Lengths::USUAL }
     }
 
     /// A call of a kind that is drawn by weight; set-ups are planned apart.
@@ -122,7 +141,10 @@ impl Generator {
     pub fn call_of_kind(&mut self, kind: usize, hub: &Hub, total: usize) -> Event {
         self.careless = self.random.chance(1, 12);
         let call = self.arguments(kind, hub, total);
-        let lengths = self.lengths(hub, total);
+        let lengths = match call {
+            Call::SetUp(ref settings) => self.set_up_lengths(settings),
+            _ => self.lengths(hub, total),
+        };
         self.careless = false;
         Event::Call(call, lengths)
     }
@@ -130,7 +152,7 @@ impl Generator {
     fn arguments(&mut self, kind: usize, hub: &Hub, total: usize) -> Call {
         let id = self.id(hub);
         match kind {
-            0 => Call::SetUp(any_settings(&mut self.random)),
+            0 => Call::SetUp(self.settings(hub)),
             1 => self.connect(hub, id),
             2 => Call::Disconnect { id },
             3 => Call::Reset { id },
@@ -164,6 +186,16 @@ impl Generator {
         }
     }
 
+    /// Mostly bad settings; half of them for a hub of the size that there is already.
+    fn settings(&mut self, hub: &Hub) -> Settings {
+        let Numbers { peers, vectors, .. } = hub.numbers;
+        let mut good = good_settings(&mut self.random);
+        if hub.numbers.accepted() && self.random.chance(1, 2) {
+            good = Settings { peers, vectors, output: 0, ..good };
+        }
+        if self.random.chance(1, 4) { good } else { spoiled(&mut self.random, good) }
+    }
+
     /// Mostly a doorbell; often a new state, or Interrupt Control switched on again.
     fn register_write(&mut self, hub: &Hub, id: u64) -> Call {
         let draw = if self.careless { 39 } else { self.random.below(40) };
@@ -187,7 +219,7 @@ impl Generator {
         }
         // The last one is one of many, but what is at an edge should not be rare.
         let start = if self.random.chance(1, 16) { peers - 1 } else { self.random.below(peers) };
-        let connected = |id: &u64| hub.peers[*id as usize].connected == 1;
+        let connected = |id: &u64| hub.peers.get(*id as usize).is_some_and(|peer| peer.connected == 1);
         let found = (0..peers).map(|step| (start + step) % peers).find(connected);
         found.filter(|_| !self.slips(12)).unwrap_or(start)
     }
@@ -348,9 +380,9 @@ impl Generator {
 
     /// Usually one that is away, so that it comes back.
     fn connect(&mut self, hub: &Hub, id: u64) -> Call {
-        let away = |id: &u64| hub.peers[*id as usize].connected == 0;
-        let other = (0..hub.numbers.peers.min(PEERS)).find(away).filter(|_| self.random.chance(3, 4));
-        Call::Connect { id: other.unwrap_or(id) }
+        let away = hub.peers.iter().position(|peer| peer.connected == 0);
+        let other = away.filter(|_| self.random.chance(3, 4));
+        Call::Connect { id: other.map_or(id, |other| other as u64) }
     }
 
     /// A peer that starts anew mostly boots.
@@ -427,13 +459,16 @@ impl Generator {
         }
     }
 
-    /// A set-up with a wrong number or region length; a few calls find no hub; a good set-up.
+    /// Set-ups with a wrong number, or lent other words or another region than they ask for, half of them on a hub of the same
+    /// size; a few calls find no hub; a good set-up.
     fn plan_refused_set_up(&mut self, hub: &Hub, total: usize) {
-        let wrong_length = Lengths { region: self.random.pick(&[-1, 1, 64, -4096]), ..Lengths::USUAL };
-        let wrong_words = Lengths { words: self.random.pick(&[0, HUB_WORDS - 1, HUB_WORDS + 1]), ..Lengths::USUAL };
         for _ in 0..8 {
-            let settings = any_settings(&mut self.random);
-            let lengths = self.random.pick(&[Lengths::USUAL, wrong_length, wrong_length, wrong_words]);
+            let good = good_settings(&mut self.random);
+            if self.random.chance(1, 2) {
+                self.planned.push_back(Call::SetUp(good).into());
+            }
+            let settings = if self.random.chance(1, 4) { good } else { spoiled(&mut self.random, good) };
+            let lengths = self.set_up_lengths(&settings);
             self.planned.push_back(Event::Call(Call::SetUp(settings), lengths));
             let event = self.any_call(hub, total);
             self.planned.push_back(event);
@@ -463,9 +498,10 @@ impl Generator {
         self.plan_set_up();
     }
 
-    /// Some bits turn over, calls are made, the bits turn back.
+    /// Some bits turn over, often such as say how large the hub is, calls are made, the bits turn back.
     fn plan_damage(&mut self, hub: &Hub, total: usize) {
-        let word = self.random.below(HUB_WORDS as u64) as usize;
+        let any = self.random.below(hub_words(&hub.numbers) as u64) as usize;
+        let word = self.random.pick(&[0, 1, any, any, any, any]);
         let (one, another) = (1 << self.random.below(32), 1 << self.random.below(32));
         let bits = self.random.pick(&[one, one, one | another]);
         self.planned.push_back(Event::Flip { word, bits });
@@ -538,14 +574,8 @@ pub fn good_settings(random: &mut Random) -> Settings {
     settings
 }
 
-/// Mostly bad settings.
-pub fn any_settings(random: &mut Random) -> Settings {
-    if random.chance(1, 4) { good_settings(random) } else { bad_settings(random) }
-}
-
-/// Settings with one number at or over an edge; now and then they are good all the same.
-pub fn bad_settings(random: &mut Random) -> Settings {
-    let good = good_settings(random);
+/// Good settings with one number at or over an edge; now and then they are good all the same.
+pub fn spoiled(random: &mut Random, good: Settings) -> Settings {
     let wrong_size =
         random.pick(&[1, 4095, 4097, 4100, 1 << 30, (1 << 30) + PAGE, HIGH, HIGH + PAGE, TOP, TOP - 4095, 1 << 63]);
     match random.below(11) {

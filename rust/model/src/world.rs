@@ -1,10 +1,10 @@
 //! The host's memory, and the comparison of two of them after every event.
 
-use ivshmem::{Delivery, HUB_WORDS, MAX_PEERS, PeerId, Settings, Vector};
+use ivshmem::{Delivery, MAX_PEERS, MAX_VECTORS, PeerId, Settings, Vector};
 
 use crate::call::{Call, Event, Lengths};
 use crate::hub::{Hub, Numbers, Peer};
-use crate::layout::encode;
+use crate::layout::{encode, hub_words};
 use crate::subject::{Answer, Lent, Subject};
 
 /// Elements that every lent slice has behind its end, to see stores that run past it.
@@ -13,13 +13,15 @@ const SLACK: usize = 64;
 pub const LONGEST_REGION: u128 = 272 * 1024;
 /// Records that the host has; it may lend fewer.
 pub const MOST_RECORDS: usize = MAX_PEERS + 6;
-/// Words that the host has; it may lend fewer.
-pub const MOST_WORDS: usize = HUB_WORDS + 6;
+/// Words that the host has, more than a hub of one peer and one vector too many would take; it lends fewer.
+pub const MOST_WORDS: usize = ivshmem::hub_words(MAX_PEERS + 1, MAX_VECTORS + 1) + SLACK;
 
 /// What the host owns and lends.
 #[derive(Clone)]
 pub struct World {
     words: Vec<u32>,
+    in_hub: usize,
+    lent_words: usize,
     region: Vec<u8>,
     total: usize,
     table: [Delivery; MOST_RECORDS],
@@ -31,6 +33,8 @@ impl Default for World {
     fn default() -> World {
         World {
             words: vec![0; MOST_WORDS],
+            in_hub: 0,
+            lent_words: 0,
             region: vec![0xa5; SLACK],
             total: 0,
             table: [Delivery::default(); MOST_RECORDS],
@@ -41,10 +45,16 @@ impl Default for World {
 }
 
 impl World {
-    /// The words of the hub.
+    /// The words of the hub, as many as the host takes it to have.
     #[must_use]
     pub fn hub_words(&self) -> &[u32] {
-        &self.words[..HUB_WORDS]
+        &self.words[..self.in_hub]
+    }
+
+    /// The words that the last call was lent.
+    #[must_use]
+    pub fn lent_words(&self) -> &[u32] {
+        &self.words[..self.lent_words]
     }
 
     /// The shared bytes.
@@ -66,13 +76,18 @@ impl World {
     }
 
     /// Puts other words in the hub's place.
-    pub fn set_hub_words(&mut self, words: &[u32; HUB_WORDS]) {
-        self.words[..HUB_WORDS].copy_from_slice(words);
+    pub fn set_hub_words(&mut self, words: &[u32]) {
+        self.in_hub = words.len();
+        self.words[..self.in_hub].copy_from_slice(words);
     }
 
-    /// Makes the region as long as the settings ask, where that is not too long.
+    /// Makes hub and region as long as the settings ask, each where that is not too long.
     pub fn fit(&mut self, settings: &Settings) {
-        let total = Numbers::from(settings).total();
+        let numbers = Numbers::from(settings);
+        let (words, total) = (hub_words(&numbers), numbers.total());
+        if words <= (MOST_WORDS - SLACK) as u128 {
+            self.in_hub = words as usize;
+        }
         if total <= LONGEST_REGION {
             self.total = total as usize;
             self.region.resize(self.total + SLACK, 0xa5);
@@ -88,7 +103,7 @@ impl World {
                 self.fit(settings);
                 let mut hub = Hub::fresh(settings.into());
                 for (id, peer) in hub.peers.iter_mut().enumerate() {
-                    if (id as u64) < settings.peers && mask >> id & 1 == 1 {
+                    if mask >> id & 1 == 1 {
                         *peer = Peer::FRESH;
                     }
                 }
@@ -104,9 +119,11 @@ impl World {
         }
         self.fill_table();
         self.fill_buffer(call);
-        let bytes = (self.total as i64 + lengths.region).clamp(0, self.region.len() as i64) as usize;
+        let other = |right: usize, more: i64, most: usize| (right as i64 + more).clamp(0, most as i64) as usize;
+        let bytes = other(self.total, lengths.region, self.region.len());
+        self.lent_words = other(self.in_hub, lengths.words, MOST_WORDS);
         let lent = Lent {
-            words: &mut self.words[..lengths.words.min(MOST_WORDS)],
+            words: &mut self.words[..self.lent_words],
             region: &mut self.region[..bytes],
             table: &mut self.table[..lengths.records.min(MOST_RECORDS)],
             buffer: &mut self.buffer[..call.buffer_length()],
@@ -116,8 +133,8 @@ impl World {
 
     /// Records that no delivery is equal to.
     fn fill_table(&mut self) {
-        for (at, record) in (0xdead_0000..).zip(&mut self.table) {
-            *record = Delivery { target: PeerId(at), vector: Vector(at), address: at.into(), payload: at };
+        for (at, record) in (0xde00..).zip(&mut self.table) {
+            *record = Delivery { address: at.into(), payload: at.into(), target: PeerId(at), vector: Vector(at) };
         }
     }
 

@@ -1,6 +1,6 @@
 //! The cases of the rules' bench, on the model and the library at once.
 
-use ivshmem::{Delivery, HUB_WORDS, PeerId, Settings, Vector};
+use ivshmem::{Delivery, PeerId, Settings, Vector, hub_words};
 use model::call::{Call, Event, Lengths};
 use model::compare::Pair;
 use model::count::Counts;
@@ -95,7 +95,7 @@ fn doorbell_names_vector_and_id() {
     for (offset, value) in [(0x18, 0x99), (0x1c, 0)] {
         assert_eq!(bench.number(Call::MsixWrite { id: 3, offset, width: 4, value }), 0);
     }
-    let delivered = Delivery { target: PeerId(3), vector: Vector(1), address: 0, payload: 0x99 };
+    let delivered = Delivery { address: 0, payload: 0x99, target: PeerId(3), vector: Vector(1) };
     assert_eq!(bench.register(0, 0x0c, 0x0003_0001), [delivered]);
 }
 
@@ -126,7 +126,7 @@ fn whole_list() {
     bench.write(3, 0x43, 1, 1);
     bench.write(1, 0x04, 2, 0x0002);
 
-    let to = |id, payload| Delivery { target: PeerId(id), vector: Vector(0), address: 0xfee0_0000, payload };
+    let to = |id, payload| Delivery { address: 0xfee0_0000, payload, target: PeerId(id), vector: Vector(0) };
     assert_eq!(bench.register(1, 0x10, 5), [to(0, 0x40), to(3, 0x43)]);
     assert_eq!(bench.0.world().region()[4..8], [5, 0, 0, 0]);
     assert_eq!(bench.answer(Call::RegisterRead { id: 3, offset: 0x08, width: 4 }).value, 0);
@@ -173,10 +173,15 @@ fn largest() -> Bench {
 #[test]
 fn all_others_of_sixty_four() {
     let mut bench = largest();
-    let to = |id: u32| Delivery { target: PeerId(id), vector: Vector(0), address: 0xfee0_0000, payload: 0x100 + id };
-    let others = |sender: u32| (0..64).filter(|&id| id != sender).map(to).collect::<Vec<_>>();
+    let to = |id: u16| Delivery {
+        address: 0xfee0_0000,
+        payload: 0x100 + u32::from(id),
+        target: PeerId(id),
+        vector: Vector(0),
+    };
+    let others = |sender: u64| (0..64).filter(|&id| u64::from(id) != sender).map(to).collect::<Vec<_>>();
     for id in [0, 31, 63] {
-        assert_eq!(bench.register(id, 0x10, 5), others(id as u32));
+        assert_eq!(bench.register(id, 0x10, 5), others(id));
         assert_eq!(bench.0.world().region()[4 * id as usize..][..4], [5, 0, 0, 0]);
     }
     for (call, sender) in [(Call::Reset { id: 63 }, 63), (Call::Disconnect { id: 63 }, 63)] {
@@ -191,7 +196,7 @@ fn all_others_of_sixty_four() {
 #[test]
 fn last_peer_and_last_vector() {
     let mut bench = largest();
-    let last = Delivery { target: PeerId(63), vector: Vector(15), address: 1 << 32, payload: 0x23f };
+    let last = Delivery { address: 1 << 32, payload: 0x23f, target: PeerId(63), vector: Vector(15) };
     assert_eq!(bench.register(0, 0x0c, 0x003f_000f), [last]);
     assert_eq!(bench.register(0, 0x0c, 0x003f_0010), []);
     assert_eq!(bench.register(0, 0x0c, 0x0040_000f), []);
@@ -221,10 +226,11 @@ fn the_order_of_refusals() {
     let bad_write = Call::RegisterWrite { id: 9, offset: 4097, width: 8, value: 0 };
     let mut bench = Bench::new(four_peers(4), &[0]);
     for (wrong, number) in [
-        (lengths(HUB_WORDS - 1, -1, 3), 10),
-        (lengths(HUB_WORDS, -1, 3), 2),
-        (lengths(HUB_WORDS, 0, 3), 11),
-        (lengths(HUB_WORDS, 0, 4), 3),
+        (lengths(-1, -1, 3), 10),
+        (lengths(1, -1, 3), 10),
+        (lengths(0, -1, 3), 2),
+        (lengths(0, 0, 3), 11),
+        (lengths(0, 0, 4), 3),
     ] {
         assert_eq!(bench.answer(Event::Call(bad_write.clone(), wrong)).number, number);
     }
@@ -235,12 +241,70 @@ fn the_order_of_refusals() {
     }
 }
 
+/// A set-up's refusals, 1, 10 and 2, each on a hub whose words it leaves all zero.
+#[test]
+fn refused_set_ups() {
+    let few = Settings { peers: 1, ..four_peers(4) };
+    let right = hub_words(4, 4) as i64;
+    for (settings, words, region, number) in [
+        (few, 0, 0, 1),
+        (few, 0, -1, 1),
+        (few, 1, 0, 1),
+        (few, 1, -1, 1),
+        (four_peers(4), 1, 0, 10),
+        (four_peers(4), -1, 0, 10),
+        (four_peers(4), 1, -1, 10),
+        (four_peers(4), -right, 0, 10),
+        (four_peers(4), 2 - right, -1, 10),
+        (four_peers(4), hub_words(64, 16) as i64 - right, 0, 10),
+        (four_peers(4), 0, -1, 2),
+        (four_peers(4), 0, 1, 2),
+        (four_peers(4), 0, 0, 0),
+    ] {
+        let mut bench = Bench::new(four_peers(4), &[0, 3]);
+        let answer = bench.answer(Event::Call(Call::SetUp(settings), Lengths { words, region, ..Lengths::USUAL }));
+        assert_eq!(answer.number, number);
+        let zero = bench.0.world().lent_words().iter().all(|&word| word == 0);
+        assert_eq!(zero, number != 0 || words == -right);
+    }
+}
+
+/// Every call on words that are one too few or too many, or too few to say how many they should be.
+#[test]
+fn words_of_another_number() {
+    let calls = [
+        Call::Connect { id: 1 },
+        Call::Disconnect { id: 0 },
+        Call::Reset { id: 0 },
+        Call::ConfigurationRead { id: 0, offset: 0, width: 4 },
+        Call::ConfigurationWrite { id: 0, offset: 4, width: 2, value: 6 },
+        Call::RegisterRead { id: 0, offset: 0, width: 4 },
+        Call::RegisterWrite { id: 0, offset: 16, width: 4, value: 5 },
+        Call::MsixRead { id: 0, offset: 0, width: 4 },
+        Call::MsixWrite { id: 0, offset: 0, width: 4, value: 4 },
+        Call::Section { id: 0, offset: 0, length: 1 },
+        Call::Load { id: 0, offset: 0, length: 1 },
+        Call::Store { id: 0, offset: 4096, length: 1, fill: 7 },
+    ];
+    let right = hub_words(4, 4) as i64;
+    let mut bench = Bench::new(Settings { output: 4096, ..four_peers(4) }, &[0]);
+    for call in calls {
+        for words in [-1, 1, -right, 1 - right, 2 - right, 10 - right] {
+            let answer = bench.answer(Event::Call(call.clone(), Lengths { words, ..Lengths::USUAL }));
+            assert_eq!(answer, Answer { number: 10, ..Answer::default() }, "{call}");
+        }
+        assert_eq!(bench.number(call.clone()), 0, "{call}");
+        bench.answer(Call::Connect { id: 0 });
+    }
+}
+
 /// The largest region there is; it takes a gigabyte.
 #[test]
 #[ignore = "takes a gigabyte of memory"]
 fn largest_region() {
     let mut region = vec![0xa5; 1 << 30];
     let settings = Settings { read_write: (1 << 30) - 4096, ..four_peers(4) };
-    let hub = ivshmem::Hub::set_up(&settings, &mut region);
+    let mut words = [0; hub_words(4, 4)];
+    let hub = ivshmem::Hub::set_up(&mut words, &settings, &mut region);
     assert!(hub.is_ok() && region.iter().all(|&byte| byte == 0));
 }

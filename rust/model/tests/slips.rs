@@ -3,11 +3,11 @@
 
 use std::collections::HashMap;
 
-use ivshmem::Section;
+use ivshmem::{MAX_PEERS, MAX_VECTORS, Section};
 use model::call::Call;
 use model::compare::{self, Failure};
-use model::hub::{Block, Hub, Ring};
-use model::layout::{decode, encode};
+use model::hub::{Block, Hub, Numbers, Ring};
+use model::layout::{decode, decode_numbers, encode, hub_words};
 use model::one_shot;
 use model::subject::{Answer, Lent, Model, Subject};
 
@@ -123,7 +123,7 @@ fn keeps_a_masked_ring_pending() {
             pending.retain(|&(target, vector)| {
                 let sent = hub.blocks(target, vector).is_empty() && answer.count < lent.table.len();
                 if sent {
-                    lent.table[answer.count].target.0 = target as u32;
+                    lent.table[answer.count].target.0 = target as u16;
                     answer.count += 1;
                 }
                 !sent
@@ -246,4 +246,147 @@ fn loses_the_high_half_of_an_offset() {
             model.perform(&cut, lent)
         }
     });
+}
+
+/// A set-up with the words that it is lent, and what they are before.
+fn set_up_slip(
+    slip: fn(&Numbers, &[u32], &mut Answer, &mut Lent<'_>),
+    model: &mut Model,
+    call: &Call,
+    mut lent: Lent<'_>,
+) -> Answer {
+    let before = lent.words.to_vec();
+    let mut answer = model.perform(call, again(&mut lent));
+    if let Call::SetUp(settings) = call {
+        slip(&settings.into(), &before, &mut answer, &mut lent);
+    }
+    answer
+}
+
+#[test]
+fn keeps_the_words_of_a_refused_set_up() {
+    is_found("a set-up refused with 10 keeps its words", 2, || {
+        |model: &mut Model, call: &Call, lent: Lent<'_>| {
+            let slip = |_: &Numbers, before: &[u32], answer: &mut Answer, lent: &mut Lent<'_>| {
+                if answer.number == 10 {
+                    lent.words.copy_from_slice(before);
+                }
+            };
+            set_up_slip(slip, model, call, lent)
+        }
+    });
+}
+
+#[test]
+fn makes_only_the_settings_zero() {
+    is_found("a refused set-up makes only its settings zero", 3, || {
+        |model: &mut Model, call: &Call, lent: Lent<'_>| {
+            let slip = |_: &Numbers, before: &[u32], answer: &mut Answer, lent: &mut Lent<'_>| {
+                if let (1.., Some(rest)) = (answer.number, lent.words.get_mut(10..)) {
+                    rest.copy_from_slice(&before[10..]);
+                }
+            };
+            set_up_slip(slip, model, call, lent)
+        }
+    });
+}
+
+#[test]
+fn refuses_the_words_first() {
+    is_found("a set-up's words are refused before its numbers", 1, || {
+        |model: &mut Model, call: &Call, lent: Lent<'_>| {
+            let slip = |numbers: &Numbers, before: &[u32], answer: &mut Answer, _: &mut Lent<'_>| {
+                if answer.number == 1 && before.len() as u128 != hub_words(numbers) {
+                    answer.number = 10;
+                }
+            };
+            set_up_slip(slip, model, call, lent)
+        }
+    });
+}
+
+#[test]
+fn refuses_the_region_before_the_words() {
+    is_found("a set-up's region is refused before its words", 1, || {
+        |model: &mut Model, call: &Call, lent: Lent<'_>| {
+            let slip = |numbers: &Numbers, _: &[u32], answer: &mut Answer, lent: &mut Lent<'_>| {
+                if answer.number == 10 && lent.region.len() as u128 != numbers.total() {
+                    answer.number = 2;
+                }
+            };
+            set_up_slip(slip, model, call, lent)
+        }
+    });
+}
+
+/// The words in front that are asked for, where there are more.
+fn in_front<'a>(lent: &'a mut Lent<'_>, asked: u128) -> Lent<'a> {
+    let length = (lent.words.len() as u128).min(asked) as usize;
+    Lent { words: &mut lent.words[..length], region: lent.region, table: lent.table, buffer: lent.buffer }
+}
+
+#[test]
+fn takes_more_words_than_it_asks_for() {
+    is_found("a call takes a hub with more words behind it", 2, || {
+        |model: &mut Model, call: &Call, mut lent: Lent<'_>| {
+            let asked = hub_words(&decode_numbers(lent.words));
+            match call {
+                Call::SetUp(_) => model.perform(call, lent),
+                _ => model.perform(call, in_front(&mut lent, asked)),
+            }
+        }
+    });
+}
+
+#[test]
+fn sets_up_in_more_words_than_it_asks_for() {
+    is_found("a set-up takes more words than it asks for", 1, || {
+        |model: &mut Model, call: &Call, mut lent: Lent<'_>| match call {
+            Call::SetUp(settings) => model.perform(call, in_front(&mut lent, hub_words(&settings.into()))),
+            _ => model.perform(call, lent),
+        }
+    });
+}
+
+#[test]
+fn loses_the_high_half_of_word_0() {
+    is_found("word 0 is cut to 16 bits", 3, || {
+        |model: &mut Model, call: &Call, mut lent: Lent<'_>| {
+            let high = lent.words.first().map_or(0, |word| word & 0xffff_0000);
+            if high == 0 || matches!(call, Call::SetUp(_)) {
+                return model.perform(call, lent);
+            }
+            lent.words[0] &= 0xffff;
+            let answer = model.perform(call, again(&mut lent));
+            lent.words[0] |= high;
+            answer
+        }
+    });
+}
+
+/// Reads entries where they would stand if every peer had so many vectors and a column had a place for so many peers.
+fn reads_entries_of(name: &str, peers: Option<usize>, vectors: Option<usize>) {
+    is_found(name, 5, || {
+        |model: &mut Model, call: &Call, mut lent: Lent<'_>| {
+            let mut answer = model.perform(call, again(&mut lent));
+            let (Call::MsixRead { id, offset, .. }, 0, true) = (call, answer.number, answer.value != u32::MAX) else {
+                return answer;
+            };
+            let n = decode_numbers(lent.words);
+            if offset / 16 < n.vectors {
+                let (peers, vectors) = (peers.unwrap_or(n.peers as usize), vectors.unwrap_or(n.vectors as usize));
+                let (vector, column) = ((offset / 16) as usize, (offset % 16 / 4) as usize);
+                let at = 10 + 8 * peers + column * peers * vectors + *id as usize * vectors + vector;
+                answer.value = lent.words.get(at).copied().unwrap_or_default();
+            }
+            answer
+        }
+    });
+}
+
+#[test]
+fn reads_entries_with_the_largest_strides() {
+    reads_entries_of("entries stand as in the largest hub", Some(MAX_PEERS), Some(MAX_VECTORS));
+    reads_entries_of("a column has a place for the most peers", Some(MAX_PEERS), None);
+    reads_entries_of("every peer has the most vectors", None, Some(MAX_VECTORS));
 }
