@@ -1,10 +1,10 @@
 //! What is timed: calls with the hubs that they find.
 
-use ivshmem::{Delivery, HUB_WORDS, MAX_PEERS, MAX_VECTORS, PeerId, Settings, Vector, msix, register};
+use ivshmem::{Delivery, MAX_PEERS, MAX_VECTORS, PeerId, Settings, Vector, msix, register};
 use model::call::Call;
 use model::subject::Answer;
 
-use crate::device::{Lending, Library, perform};
+use crate::device::{Device, Lending, Library};
 
 /// Calls of a round, each on a hub of its own. Few, so that all hubs stay in a near cache; on one hub alone, in the nearest, a
 /// call of the library took as long.
@@ -19,13 +19,15 @@ pub struct Case {
     pub name: String,
     /// Calls that differ a little, and the hub that each finds.
     pub calls: Vec<Call>,
-    pub hubs: Vec<[u32; HUB_WORDS]>,
+    pub hubs: Vec<Vec<u32>>,
     pub region_bytes: usize,
     /// Whether a call can be made again on the hub that it left, with an answer of the same kind.
     pub repeatable: bool,
     /// Every call's number and count of deliveries.
     pub number: u32,
     pub deliveries: usize,
+    /// Whether the calls are made on a device that does nothing, and on no other.
+    pub empty: bool,
 }
 
 impl Case {
@@ -38,6 +40,7 @@ impl Case {
             repeatable: true,
             number: 0,
             deliveries: 0,
+            empty: false,
         }
     }
 
@@ -64,9 +67,9 @@ impl Case {
 }
 
 /// The library's answer to a call on these words.
-fn make(hub: &mut [u32; HUB_WORDS], region: &mut [u8], call: &Call) -> Answer {
+fn make(hub: &mut [u32], region: &mut [u8], call: &Call) -> Answer {
     let table = &mut [Delivery::default(); MAX_PEERS];
-    perform::<Library>(hub, call, Lending { region, table, buffer: &mut [] })
+    Library::perform(hub, call, Lending { region, table, buffer: &mut [] })
 }
 
 /// How many peers and vectors a hub is set up with.
@@ -76,12 +79,14 @@ pub struct Size {
     pub vectors: u64,
 }
 
-/// The most that there can be, and a small hub.
-pub const SIZES: [Size; 2] =
-    [Size { peers: MAX_PEERS as u64, vectors: MAX_VECTORS as u64 }, Size { peers: 4, vectors: 4 }];
+/// Two small hubs, and the most that there can be.
+pub const SIZES: [Size; 3] = [Size { peers: 4, vectors: 4 }, Size { peers: 8, vectors: 4 }, Size::LARGEST];
 
 impl Size {
-    fn settings(self) -> Settings {
+    pub const LARGEST: Size = Size { peers: MAX_PEERS as u64, vectors: MAX_VECTORS as u64 };
+
+    #[must_use]
+    pub fn settings(self) -> Settings {
         Settings {
             peers: self.peers,
             vectors: self.vectors,
@@ -111,8 +116,9 @@ impl Size {
 }
 
 /// A hub with all peers connected and set up by their drivers, of which the chosen ones let interrupts through.
-fn booted(settings: &Settings, armed: impl Fn(u64) -> bool) -> [u32; HUB_WORDS] {
-    let mut hub = [0; HUB_WORDS];
+#[must_use]
+pub fn booted(settings: &Settings, armed: impl Fn(u64) -> bool) -> Vec<u32> {
+    let mut hub = vec![0; settings.hub_words().expect("a hub's peers and vectors")];
     let mut region = vec![0; settings.total().expect("a small region")];
     let mut calls = vec![Call::SetUp(*settings)];
     for id in 0..settings.peers {
@@ -173,7 +179,13 @@ fn configuration_write(id: u64, k: u64) -> Call {
 /// Every call on a hub of this size: accepted, ringing, and refused.
 #[must_use]
 pub fn all(size: Size) -> Vec<Case> {
-    [accepted(size), rings(size), refused(size)].into_iter().flatten().collect()
+    [vec![empty(size)], accepted(size), rings(size), refused(size)].into_iter().flatten().collect()
+}
+
+/// A register write that does nothing: what of the other rows is the harness and the call.
+fn empty(size: Size) -> Case {
+    let call = |k| register_write(size.peer(k), register::INTERRUPT_CONTROL, 1);
+    Case { empty: true, ..Case::new("empty call", &size.settings(), call) }
 }
 
 /// Every call, accepted.
@@ -183,9 +195,7 @@ fn accepted(size: Size) -> Vec<Case> {
     let case = |name: &str, make: &dyn Fn(u64, u64) -> Call| Case::new(name, &settings, |k| make(size.peer(k), k));
     let next = |k| size.peer(k + 1);
     vec![
-        Case::new("set up, region of 4096 bytes", &small, |k| {
-            Call::SetUp(Settings { vectors: 1 + k % size.vectors, ..small })
-        }),
+        Case::new("set up, region of 4096 bytes", &small, |k| Call::SetUp(Settings { protocol: k as u16, ..small })),
         case("connect", &|id, _| Call::Connect { id }).after(|k| Call::Disconnect { id: size.peer(k) }).once(),
         case("disconnect, all others delivered", &|id, _| Call::Disconnect { id }).delivering(size.others()).once(),
         case("reset, all others delivered", &|id, _| Call::Reset { id }).delivering(size.others()),
@@ -215,8 +225,8 @@ fn rings(size: Size) -> Vec<Case> {
     let settings = size.settings();
     let receiver = size.peers - 1;
     let doorbell = |k: u64| {
-        let target = PeerId(size.peer(k + 1) as u32);
-        register_write(size.peer(k), register::DOORBELL, register::doorbell(target, Vector((k % size.vectors) as u32)))
+        let (target, vector) = (PeerId(size.peer(k + 1) as u16), Vector((k % size.vectors) as u16));
+        register_write(size.peer(k), register::DOORBELL, register::doorbell(target, vector))
     };
     let one = Case {
         hubs: vec![booted(&settings, |id| id == receiver); ROUND],
@@ -232,13 +242,19 @@ fn rings(size: Size) -> Vec<Case> {
 
 /// How a State store grows with the peers, at the most vectors.
 #[must_use]
-pub fn growth() -> Vec<Case> {
-    let sizes = [2, 4, 8, 16, 32, MAX_PEERS as u64].map(|peers| Size { peers, vectors: MAX_VECTORS as u64 });
-    let case = |size: Size| {
-        let name = format!("State store at {} peers, all {} delivered", size.peers, size.others());
-        Case::new(&name, &size.settings(), |k| state_store(size.peer(k), k)).delivering(size.others())
-    };
-    sizes.map(case).into()
+pub fn growth_by_peers() -> Vec<Case> {
+    [2, 4, 8, 16, 32, 64].map(|peers| grown(Size { peers, ..Size::LARGEST })).into()
+}
+
+/// How it grows with the vectors, at the most peers.
+#[must_use]
+pub fn growth_by_vectors() -> Vec<Case> {
+    [1, 2, 4, 8, 16].map(|vectors| grown(Size { vectors, ..Size::LARGEST })).into()
+}
+
+fn grown(size: Size) -> Case {
+    let name = format!("State store at {} by {}, all {} delivered", size.peers, size.vectors, size.others());
+    Case::new(&name, &size.settings(), |k| state_store(size.peer(k), k)).delivering(size.others())
 }
 
 /// Every call refused as late as it can be, and check 10 alone.
@@ -258,6 +274,8 @@ fn refused(size: Size) -> Vec<Case> {
         })
         .refused(3),
         case("set up", &|_, k| Call::SetUp(Settings { base: 1 + k, ..settings })).refused(1),
+        case("set up", &|_, k| Call::SetUp(Settings { protocol: k as u16, peers: size.peers - 1, ..settings }))
+            .refused(10),
         case("connect", &|id, _| Call::Connect { id }).refused(5),
         gone("disconnect", &|id, _| Call::Disconnect { id }).refused(4),
         gone("reset", &|id, _| Call::Reset { id }).refused(4),

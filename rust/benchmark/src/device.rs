@@ -1,108 +1,12 @@
-//! The library and the yardsticks behind one trait, with the calls of the C boundary over slices.
+//! The library and the yardsticks behind one trait, and a device that does nothing.
 
 use std::marker::PhantomData;
 
-use ivshmem::raw::{self, Counted, Reply, SectionReply};
-use ivshmem::{Delivery, Settings};
+use ivshmem::{Delivery, raw};
 use model::call::Call;
 use model::subject::{Answer, Lent, Subject};
 
 use crate::state::Form;
-
-/// Something that answers the calls; each means what `ivshmem.h` says.
-pub trait Device {
-    /// The form in which it is lent the hub.
-    type Hub: Form + ?Sized;
-
-    fn set_up(hub: &mut Self::Hub, region: &mut [u8], settings: &Settings) -> Reply;
-    fn connect(hub: &mut Self::Hub, id: u64) -> Reply;
-    fn disconnect(hub: &mut Self::Hub, region: &mut [u8], table: &mut [Delivery], id: u64) -> Counted;
-    fn reset(hub: &mut Self::Hub, region: &mut [u8], table: &mut [Delivery], id: u64) -> Counted;
-    fn configuration_read(hub: &Self::Hub, id: u64, offset: u64, width: u64) -> Reply;
-    fn configuration_write(hub: &mut Self::Hub, id: u64, offset: u64, width: u64, value: u32) -> Reply;
-    fn register_read(hub: &Self::Hub, id: u64, offset: u64, width: u64) -> Reply;
-    fn register_write(
-        hub: &mut Self::Hub,
-        region: &mut [u8],
-        table: &mut [Delivery],
-        id: u64,
-        offset: u64,
-        width: u64,
-        value: u32,
-    ) -> Counted;
-    fn msix_read(hub: &Self::Hub, id: u64, offset: u64, width: u64) -> Reply;
-    fn msix_write(hub: &mut Self::Hub, id: u64, offset: u64, width: u64, value: u32) -> Reply;
-    fn section(hub: &Self::Hub, id: u64, offset: u64, length: u64) -> SectionReply;
-    fn load(hub: &Self::Hub, region: &[u8], id: u64, offset: u64, buffer: &mut [u8]) -> Reply;
-    fn store(hub: &Self::Hub, region: &mut [u8], id: u64, offset: u64, bytes: &[u8]) -> Reply;
-}
-
-/// The linked library.
-pub struct Library;
-
-impl Device for Library {
-    type Hub = [u32];
-
-    fn set_up(hub: &mut [u32], region: &mut [u8], settings: &Settings) -> Reply {
-        raw::set_up(hub, region, settings)
-    }
-
-    fn connect(hub: &mut [u32], id: u64) -> Reply {
-        raw::connect(hub, id)
-    }
-
-    fn disconnect(hub: &mut [u32], region: &mut [u8], table: &mut [Delivery], id: u64) -> Counted {
-        raw::disconnect(hub, region, table, id)
-    }
-
-    fn reset(hub: &mut [u32], region: &mut [u8], table: &mut [Delivery], id: u64) -> Counted {
-        raw::reset(hub, region, table, id)
-    }
-
-    fn configuration_read(hub: &[u32], id: u64, offset: u64, width: u64) -> Reply {
-        raw::configuration_read(hub, id, offset, width)
-    }
-
-    fn configuration_write(hub: &mut [u32], id: u64, offset: u64, width: u64, value: u32) -> Reply {
-        raw::configuration_write(hub, id, offset, width, value)
-    }
-
-    fn register_read(hub: &[u32], id: u64, offset: u64, width: u64) -> Reply {
-        raw::register_read(hub, id, offset, width)
-    }
-
-    fn register_write(
-        hub: &mut [u32],
-        region: &mut [u8],
-        table: &mut [Delivery],
-        id: u64,
-        offset: u64,
-        width: u64,
-        value: u32,
-    ) -> Counted {
-        raw::register_write(hub, region, table, id, offset, width, value)
-    }
-
-    fn msix_read(hub: &[u32], id: u64, offset: u64, width: u64) -> Reply {
-        raw::msix_read(hub, id, offset, width)
-    }
-
-    fn msix_write(hub: &mut [u32], id: u64, offset: u64, width: u64, value: u32) -> Reply {
-        raw::msix_write(hub, id, offset, width, value)
-    }
-
-    fn section(hub: &[u32], id: u64, offset: u64, length: u64) -> SectionReply {
-        raw::section(hub, id, offset, length)
-    }
-
-    fn load(hub: &[u32], region: &[u8], id: u64, offset: u64, buffer: &mut [u8]) -> Reply {
-        raw::load(hub, region, id, offset, buffer)
-    }
-
-    fn store(hub: &[u32], region: &mut [u8], id: u64, offset: u64, bytes: &[u8]) -> Reply {
-        raw::store(hub, region, id, offset, bytes)
-    }
-}
 
 /// The memory lent to a call beside the hub. A store's bytes stand in the buffer.
 pub struct Lending<'a> {
@@ -111,30 +15,94 @@ pub struct Lending<'a> {
     pub buffer: &'a mut [u8],
 }
 
-/// Makes the call.
-pub fn perform<D: Device>(hub: &mut D::Hub, call: &Call, lent: Lending<'_>) -> Answer {
-    let Lending { region, table, buffer } = lent;
-    match *call {
-        Call::SetUp(ref settings) => D::set_up(hub, region, settings).into(),
-        Call::Connect { id } => D::connect(hub, id).into(),
-        Call::Disconnect { id } => D::disconnect(hub, region, table, id).into(),
-        Call::Reset { id } => D::reset(hub, region, table, id).into(),
-        Call::ConfigurationRead { id, offset, width } => D::configuration_read(hub, id, offset, width).into(),
-        Call::ConfigurationWrite { id, offset, width, value } => {
-            D::configuration_write(hub, id, offset, width, value).into()
+/// Something that answers the calls; each means what `ivshmem.h` says.
+pub trait Device {
+    /// The form in which it is lent the hub.
+    type Hub: Form + ?Sized;
+
+    /// Makes the call.
+    fn perform(hub: &mut Self::Hub, call: &Call, lent: Lending<'_>) -> Answer;
+}
+
+/// Makes a call by the functions of `$device`, which have the names and the arguments of those in [`ivshmem::raw`].
+macro_rules! perform_by {
+    ($device:ident, $hub:expr, $call:expr, $lent:expr) => {{
+        let (hub, $crate::device::Lending { region, table, buffer }) = ($hub, $lent);
+        match *$call {
+            Call::SetUp(ref settings) => $device::set_up(hub, region, settings).into(),
+            Call::Connect { id } => $device::connect(hub, id).into(),
+            Call::Disconnect { id } => $device::disconnect(hub, region, table, id).into(),
+            Call::Reset { id } => $device::reset(hub, region, table, id).into(),
+            Call::ConfigurationRead { id, offset, width } => $device::configuration_read(hub, id, offset, width).into(),
+            Call::ConfigurationWrite { id, offset, width, value } => {
+                $device::configuration_write(hub, id, offset, width, value).into()
+            }
+            Call::RegisterRead { id, offset, width } => $device::register_read(hub, id, offset, width).into(),
+            Call::RegisterWrite { id, offset, width, value } => {
+                $device::register_write(hub, region, table, id, offset, width, value).into()
+            }
+            Call::MsixRead { id, offset, width } => $device::msix_read(hub, id, offset, width).into(),
+            Call::MsixWrite { id, offset, width, value } => $device::msix_write(hub, id, offset, width, value).into(),
+            Call::Section { id, offset, length } => {
+                let answer = $device::section(hub, id, offset, length);
+                Answer { kind: answer.kind, owner: answer.owner, store: answer.store, ..answer.reply.into() }
+            }
+            Call::Load { id, offset, .. } => $device::load(hub, region, id, offset, buffer).into(),
+            Call::Store { id, offset, .. } => $device::store(hub, region, id, offset, buffer).into(),
         }
-        Call::RegisterRead { id, offset, width } => D::register_read(hub, id, offset, width).into(),
-        Call::RegisterWrite { id, offset, width, value } => {
-            D::register_write(hub, region, table, id, offset, width, value).into()
-        }
-        Call::MsixRead { id, offset, width } => D::msix_read(hub, id, offset, width).into(),
-        Call::MsixWrite { id, offset, width, value } => D::msix_write(hub, id, offset, width, value).into(),
-        Call::Section { id, offset, length } => {
-            let answer = D::section(hub, id, offset, length);
-            Answer { kind: answer.kind, owner: answer.owner, store: answer.store, ..answer.reply.into() }
-        }
-        Call::Load { id, offset, .. } => D::load(hub, region, id, offset, buffer).into(),
-        Call::Store { id, offset, .. } => D::store(hub, region, id, offset, buffer).into(),
+    }};
+}
+pub(crate) use perform_by;
+
+/// The linked library.
+pub struct Library;
+
+impl Device for Library {
+    type Hub = [u32];
+
+    fn perform(hub: &mut [u32], call: &Call, lent: Lending<'_>) -> Answer {
+        perform_by!(raw, hub, call, lent)
+    }
+}
+
+/// The library, but for a register write that does nothing: its time is that of the harness and of the call.
+pub struct Nothing;
+
+impl Device for Nothing {
+    type Hub = [u32];
+
+    fn perform(hub: &mut [u32], call: &Call, lent: Lending<'_>) -> Answer {
+        perform_by!(empty, hub, call, lent)
+    }
+}
+
+mod empty {
+    use std::hint::black_box;
+
+    use ivshmem::Delivery;
+    pub use ivshmem::raw::*;
+
+    type Function = extern "C" fn(*mut u32, usize, *mut u8, usize, *mut Delivery, usize, u64, u64, u64, u32) -> Counted;
+
+    #[rustfmt::skip]
+    extern "C" fn nothing(_: *mut u32, _: usize, _: *mut u8, _: usize, _: *mut Delivery, _: usize,
+                          _: u64, _: u64, _: u64, _: u32) -> Counted {
+        Counted::default()
+    }
+
+    pub fn register_write(
+        hub: &mut [u32],
+        region: &mut [u8],
+        table: &mut [Delivery],
+        id: u64,
+        offset: u64,
+        width: u64,
+        value: u32,
+    ) -> Counted {
+        let (words, bytes, records) = (hub.len(), region.len(), table.len());
+        let (hub, region, table) = (hub.as_mut_ptr(), region.as_mut_ptr(), table.as_mut_ptr());
+        // Called through a pointer, so that the compiler does not see that it does nothing.
+        black_box(nothing as Function)(hub, words, region, bytes, table, records, id, offset, width, value)
     }
 }
 
@@ -150,9 +118,6 @@ impl<D> Default for Compared<D> {
 impl<D: Device> Subject for Compared<D> {
     fn perform(&mut self, call: &Call, lent: Lent<'_>) -> Answer {
         let Lent { words, region, table, buffer } = lent;
-        let lending = Lending { region, table, buffer };
-        // A struct has no wrong length, where words are refused with 10.
-        D::Hub::lend(words, |hub| perform::<D>(hub, call, lending))
-            .unwrap_or(Answer { number: 10, ..Answer::default() })
+        D::Hub::lend(words, call, |hub| D::perform(hub, call, Lending { region, table, buffer }))
     }
 }

@@ -1,14 +1,16 @@
 //! How fast the library's calls are, against the same work written in safe Rust.
 //!
 //! [`yardstick`] has the calls, once, over a [`state`] (an ordinary struct, or the library's words) and a [`soundness`] test;
-//! [`device`] puts the library and the yardsticks behind one trait. [`cases`] are the rows of the table, [`measure`] times them
-//! and [`report`] prints them; [`stack`] measures how deep the library's calls go.
+//! [`device`] puts the library and the yardsticks behind one trait. [`cases`] are the rows of the tables, [`measure`] times them
+//! and [`report`] prints them; [`million`] times State stores in long runs, and [`stack`] measures how deep the library's calls
+//! go.
 
 #![deny(unsafe_code)]
 
 pub mod cases;
 pub mod device;
 pub mod measure;
+pub mod million;
 pub mod report;
 pub mod rules;
 pub mod soundness;

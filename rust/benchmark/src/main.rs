@@ -3,12 +3,12 @@
 
 use std::process::ExitCode;
 
-use benchmark::cases::Case;
-use benchmark::measure::{PASSES, YARDSTICKS, measure_all};
+use benchmark::cases::SIZES;
+use benchmark::measure::{PASSES, Row, YARDSTICKS, measure_all};
 use benchmark::report::{Style, Table};
-use benchmark::state::Plain;
-use benchmark::{cases, stack};
-use ivshmem::{HUB_WORDS, MAX_VECTORS};
+use benchmark::state::{Form, Plain};
+use benchmark::{cases, million, stack};
+use ivshmem::{MAX_PEERS, MAX_VECTORS};
 
 fn main() -> ExitCode {
     let arguments: Vec<String> = std::env::args().skip(1).collect();
@@ -26,23 +26,31 @@ fn main() -> ExitCode {
 }
 
 fn print_all_times(style: Style) {
-    println!("Library time / yardstick time; medians of {PASSES} passes. Check 10 is in every call but set up.\n");
-    for size in cases::SIZES {
+    println!("Library time / yardstick time; medians of {PASSES} passes. Check 10 is in every call but set up.");
+    println!("An empty call is a register write that does nothing: what of a row is the harness.\n");
+    for size in SIZES {
         println!("A hub of {} peers and {} vectors:\n", size.peers, size.vectors);
-        print_times(style, &cases::all(size));
+        print_times(style, measure_all(&cases::all(size)));
     }
+    println!(
+        "One million State stores in a run, {MAX_PEERS} peers by {MAX_VECTORS} vectors, medians of {PASSES} runs:\n"
+    );
+    print_times(style, million::measure_all());
     println!("State stores as the peers grow, with {MAX_VECTORS} vectors each:\n");
-    print_times(style, &cases::growth());
+    print_times(style, measure_all(&cases::growth_by_peers()));
+    println!("State stores as the vectors grow, with {MAX_PEERS} peers:\n");
+    print_times(style, measure_all(&cases::growth_by_vectors()));
 }
 
-fn print_times(style: Style, cases: &[Case]) {
+fn print_times(style: Style, rows: Vec<Row>) {
     let mut table = Table::new(&[&["call", "calls per sample", "ns per call"], &YARDSTICKS[..]].concat());
     let mut spreads = Vec::new();
-    for row in measure_all(cases) {
-        let mut cells = vec![row.name, row.calls.to_string(), format!("{:.0}", row.figures.nanoseconds)];
-        cells.extend(row.figures.ratios.map(|ratio| format!("{ratio:.2}")));
+    for row in rows {
+        let mut cells = vec![row.name, row.calls.to_string(), format!("{:.1}", row.nanoseconds)];
+        cells.extend(row.ratios.iter().map(|ratio| format!("{ratio:.2}")));
+        cells.resize(3 + YARDSTICKS.len(), String::new());
         table.add(cells);
-        spreads.push(100.0 * row.spread);
+        spreads.extend(row.spread.map(|spread| 100.0 * spread));
     }
     table.print(style);
     spreads.sort_by(f64::total_cmp);
@@ -54,8 +62,12 @@ fn print_times(style: Style, cases: &[Case]) {
 
 fn print_memory(style: Style) {
     let mut table = Table::new(&["memory", "bytes"]);
-    table.add(vec!["hub, words".into(), (4 * HUB_WORDS).to_string()]);
-    table.add(vec!["hub, plain struct".into(), size_of::<Plain>().to_string()]);
+    for size in SIZES {
+        let words = cases::booted(&size.settings(), |_| true);
+        let hub = format!("hub of {} by {}", size.peers, size.vectors);
+        table.add(vec![format!("{hub}, words"), <[u32]>::bytes(&words).to_string()]);
+        table.add(vec![format!("{hub}, plain struct"), Plain::bytes(&Plain::owned(&words)).to_string()]);
+    }
     let depths = stack::depths();
     for depth in &depths {
         table.add(vec![format!("stack, {}", depth.name), depth.bytes.to_string()]);

@@ -4,11 +4,11 @@ use std::borrow::BorrowMut;
 use std::hint::black_box;
 use std::time::{Duration, Instant};
 
-use ivshmem::{Delivery, HUB_WORDS, MAX_PEERS};
+use ivshmem::{Delivery, MAX_PEERS};
 use model::subject::Answer;
 
 use crate::cases::{Case, ROUND, SHARED_BYTES};
-use crate::device::{Device, Lending, Library, perform};
+use crate::device::{Device, Lending, Library, Nothing};
 use crate::state::Form;
 use crate::yardstick::{PlainStruct, WordsAccumulating, WordsEarlyExit};
 
@@ -17,12 +17,12 @@ pub const YARDSTICKS: [&str; 3] = ["plain", "words, early exit", "words, accumul
 
 /// How often everything is measured; the table shows medians.
 pub const PASSES: usize = 5;
-type Lowered = fn(&mut dyn FnMut() -> Duration) -> Duration;
+pub type Lowered = fn(&mut dyn FnMut() -> Duration) -> Duration;
 
 /// How far the stack is lowered. A call's time depends on where its frames stand in cache lines and pages, so a measurement is
 /// the mean over these, which are spread over a page and over all places in a line; for each the median of so many pieces.
 #[rustfmt::skip]
-const POSITIONS: [Lowered; 16] = [
+pub const POSITIONS: [Lowered; 16] = [
     lowered::<16>, lowered::<288>, lowered::<560>, lowered::<832>,
     lowered::<1104>, lowered::<1376>, lowered::<1648>, lowered::<1920>,
     lowered::<2192>, lowered::<2464>, lowered::<2736>, lowered::<3008>,
@@ -32,40 +32,37 @@ const PIECES: usize = 7;
 /// How long a piece takes at the library's speed.
 const PIECE: Duration = Duration::from_micros(250);
 
-/// The library's time for a call, and its ratio to each yardstick's.
-#[derive(Clone, Copy)]
-pub struct Figures {
-    pub nanoseconds: f64,
-    pub ratios: [f64; YARDSTICKS.len()],
-}
+/// Nanoseconds of a call in one pass: the library's, then each yardstick's. An empty call has its own alone.
+pub type Pass = Vec<f64>;
 
 /// The medians of all passes over a case.
 pub struct Row {
     pub name: String,
     /// Calls of one measurement.
     pub calls: usize,
-    pub figures: Figures,
+    pub nanoseconds: f64,
+    /// The library's time by each yardstick's; none for an empty call.
+    pub ratios: Vec<f64>,
     /// How far the passes lie apart: the largest difference between two ratios to one yardstick, by their median.
-    pub spread: f64,
+    pub spread: Option<f64>,
 }
 
 impl Row {
-    fn new(case: &Case, rounds: u32, passes: &[Figures]) -> Row {
-        let ratios = |yardstick: usize| passes.iter().map(|pass| pass.ratios[yardstick]).collect::<Vec<_>>();
-        let figures = Figures {
-            nanoseconds: median(passes.iter().map(|pass| pass.nanoseconds).collect()),
-            ratios: std::array::from_fn(|yardstick| median(ratios(yardstick))),
-        };
+    #[must_use]
+    pub fn new(name: &str, calls: usize, passes: &[Pass]) -> Row {
+        let ratios_to = |yardstick: usize| passes.iter().map(|pass| pass[0] / pass[yardstick]).collect::<Vec<_>>();
         let spread = |yardstick: usize| {
-            let all = ratios(yardstick);
+            let all = ratios_to(yardstick);
             let (least, most) = all.iter().fold((f64::MAX, 0.0), |(l, m), &r| (r.min(l), r.max(m)));
-            (most - least) / figures.ratios[yardstick]
+            (most - least) / median(all)
         };
+        let yardsticks = 1..passes[0].len();
         Row {
-            name: case.name.clone(),
-            calls: rounds as usize * ROUND * PIECES * POSITIONS.len(),
-            figures,
-            spread: (0..YARDSTICKS.len()).map(spread).fold(0.0, f64::max),
+            name: name.into(),
+            calls,
+            nanoseconds: median(passes.iter().map(|pass| pass[0]).collect()),
+            ratios: yardsticks.clone().map(|yardstick| median(ratios_to(yardstick))).collect(),
+            spread: yardsticks.map(spread).max_by(f64::total_cmp),
         }
     }
 }
@@ -82,7 +79,7 @@ struct Bench<D: Device> {
 #[derive(PartialEq)]
 struct Trace {
     answers: Vec<Answer>,
-    hubs: Vec<[u32; HUB_WORDS]>,
+    hubs: Vec<Vec<u32>>,
     region: Vec<u8>,
     table: [Delivery; MAX_PEERS],
     buffer: [u8; SHARED_BYTES],
@@ -108,13 +105,13 @@ impl<D: Device> Bench<D> {
 
     fn restore(&mut self, case: &Case) {
         self.hubs.clear();
-        self.hubs.extend(case.hubs.iter().map(D::Hub::owned));
+        self.hubs.extend(case.hubs.iter().map(|words| D::Hub::owned(words)));
     }
 
     fn round(&mut self, case: &Case, mut answered: impl FnMut(Answer)) {
         for (hub, call) in self.hubs.iter_mut().zip(&case.calls) {
             let lending = Lending { region: &mut self.region, table: &mut self.table, buffer: &mut self.buffer };
-            answered(perform::<D>(black_box(hub.borrow_mut()), black_box(call), lending));
+            answered(D::perform(black_box(hub.borrow_mut()), black_box(call), lending));
         }
     }
 }
@@ -153,9 +150,12 @@ impl<D: Device> Timed for Bench<D> {
     }
 }
 
-/// The library first, then the yardsticks.
-fn benches(case: &Case) -> [Box<dyn Timed>; 1 + YARDSTICKS.len()] {
-    [
+/// The library first, then the yardsticks; for an empty call what does nothing.
+fn benches(case: &Case) -> Vec<Box<dyn Timed>> {
+    if case.empty {
+        return vec![Box::new(Bench::<Nothing>::new(case))];
+    }
+    vec![
         Box::new(Bench::<Library>::new(case)),
         Box::new(Bench::<PlainStruct>::new(case)),
         Box::new(Bench::<WordsEarlyExit>::new(case)),
@@ -165,19 +165,19 @@ fn benches(case: &Case) -> [Box<dyn Timed>; 1 + YARDSTICKS.len()] {
 
 /// Ends the program where a yardstick does not leave what the library leaves, or the case is not what its name says.
 fn check(case: &Case) {
-    let [library, yardsticks @ ..] = benches(case).map(|mut bench| bench.trace(case));
-    for answer in &library.answers {
+    let traces: Vec<Trace> = benches(case).iter_mut().map(|bench| bench.trace(case)).collect();
+    for answer in &traces[0].answers {
         assert_eq!((answer.number, answer.count), (case.number, case.deliveries), "{}", case.name);
     }
-    for (name, trace) in YARDSTICKS.iter().zip(&yardsticks) {
-        assert!(*trace == library, "{}: {name} differs from the library", case.name);
+    for (name, trace) in YARDSTICKS.iter().zip(&traces[1..]) {
+        assert!(*trace == traces[0], "{}: {name} differs from the library", case.name);
     }
 }
 
 /// How many rounds the library makes in one piece.
 fn rounds(case: &Case) -> u32 {
     const TRIAL: u32 = 100;
-    let mut bench = Bench::<Library>::new(case);
+    let bench = &mut benches(case)[0];
     // The shortest trial is one in which nothing else ran.
     let trial = (0..8).map(|_| bench.time(case, TRIAL)).min().unwrap_or_default();
     (PIECE.as_nanos() * u128::from(TRIAL) / trial.as_nanos().max(1)).max(1) as u32
@@ -192,19 +192,20 @@ fn lowered<const BYTES: usize>(work: &mut dyn FnMut() -> Duration) -> Duration {
     taken
 }
 
-fn median(mut values: Vec<f64>) -> f64 {
+#[must_use]
+pub fn median(mut values: Vec<f64>) -> f64 {
     values.sort_by(f64::total_cmp);
     values[values.len() / 2]
 }
 
-fn measure(case: &Case, rounds: u32) -> Figures {
+fn measure(case: &Case, rounds: u32) -> Pass {
     let mut benches = benches(case);
     for bench in &mut benches {
         bench.time(case, 1 + rounds / 4);
     }
-    let mut sums = [0.0; 1 + YARDSTICKS.len()];
+    let mut sums = vec![0.0; benches.len()];
     for position in POSITIONS {
-        let mut pieces = benches.each_ref().map(|_| Vec::new());
+        let mut pieces = vec![Vec::new(); benches.len()];
         for _ in 0..PIECES {
             for (bench, pieces) in benches.iter_mut().zip(&mut pieces) {
                 pieces.push(position(&mut || bench.time(case, rounds)).as_nanos() as f64);
@@ -214,11 +215,8 @@ fn measure(case: &Case, rounds: u32) -> Figures {
             *sum += median(pieces);
         }
     }
-    let [library, yardsticks @ ..] = sums;
-    Figures {
-        nanoseconds: library / f64::from(rounds) / (ROUND * POSITIONS.len()) as f64,
-        ratios: yardsticks.map(|yardstick| library / yardstick),
-    }
+    let calls = f64::from(rounds) * (ROUND * POSITIONS.len()) as f64;
+    sums.into_iter().map(|sum| sum / calls).collect()
 }
 
 /// Checks the cases, then measures all of them in every pass.
@@ -226,12 +224,13 @@ fn measure(case: &Case, rounds: u32) -> Figures {
 pub fn measure_all(cases: &[Case]) -> Vec<Row> {
     cases.iter().for_each(check);
     let rounds: Vec<u32> = cases.iter().map(rounds).collect();
-    let mut figures = vec![Vec::new(); cases.len()];
+    let mut passes = vec![Vec::new(); cases.len()];
     for _ in 0..PASSES {
-        for (figures, (case, rounds)) in figures.iter_mut().zip(cases.iter().zip(&rounds)) {
-            figures.push(measure(case, *rounds));
+        for (passes, (case, rounds)) in passes.iter_mut().zip(cases.iter().zip(&rounds)) {
+            passes.push(measure(case, *rounds));
         }
     }
-    let passes = cases.iter().zip(&rounds).zip(&figures);
-    passes.map(|((case, rounds), passes)| Row::new(case, *rounds, passes)).collect()
+    let calls = |rounds: u32| rounds as usize * ROUND * PIECES * POSITIONS.len();
+    let measured = cases.iter().zip(&rounds).zip(&passes);
+    measured.map(|((case, rounds), passes)| Row::new(&case.name, calls(*rounds), passes)).collect()
 }

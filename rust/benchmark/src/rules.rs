@@ -30,6 +30,9 @@ pub struct Registers {
     pub state: u32,
 }
 
+/// How many words a hub with these numbers has.
+pub use model::layout::hub_words as words_asked;
+
 /// The region's length; the numbers are accepted ones, or small enough not to overflow.
 #[must_use]
 pub fn total(n: &Numbers) -> u64 {
@@ -106,7 +109,7 @@ pub fn section(n: &Numbers, offset: u64, length: u64) -> Result<Section, u32> {
     if owner >= n.peers || end > outputs + (owner + 1) * n.output {
         return Err(8);
     }
-    Ok(Section::Output(PeerId(owner as u32)))
+    Ok(Section::Output(PeerId(owner as u16)))
 }
 
 #[must_use]

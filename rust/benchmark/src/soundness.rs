@@ -1,36 +1,49 @@
 //! Check 10 in two forms: with an early exit at the first fault, and with all faults gathered.
 
-use ivshmem::{HUB_WORDS, MAX_PEERS, MAX_VECTORS};
-
 use crate::rules::{ADDRESS_BITS, BAR_BITS, COMMAND_BITS, Entry, MESSAGE_BITS, Registers, accepted};
-use crate::state::{COLUMN, ENTRIES_AT, PEER_WORDS, PEERS_AT, State};
+use crate::state::{PEER_WORDS, Parts, Plain, State};
 
 /// A test of a whole hub.
-pub trait Soundness<S> {
+pub trait Soundness<S: ?Sized> {
     fn sound(hub: &S) -> bool;
 }
 
 /// The first fault ends the test.
 pub struct EarlyExit;
 
-impl<S: State> Soundness<S> for EarlyExit {
-    fn sound(hub: &S) -> bool {
-        let numbers = hub.numbers();
-        accepted(&numbers)
-            && (0..MAX_PEERS).all(|id| {
-                let registers = hub.registers(id);
-                let used = (id as u64) < numbers.peers && registers.connected == 1;
-                let vectors = if used { numbers.vectors as usize } else { 0 };
-                (if used { fixed_bits(&registers) } else { registers == Registers::default() })
-                    && (0..MAX_VECTORS).all(|v| {
-                        let entry = hub.entry(id, v);
-                        if v < vectors {
-                            entry.low & !ADDRESS_BITS == 0 && entry.control <= 1
-                        } else {
-                            entry == Entry::RESET
-                        }
-                    })
+impl Soundness<Plain> for EarlyExit {
+    fn sound(hub: &Plain) -> bool {
+        let numbers = &hub.numbers;
+        accepted(numbers)
+            && hub.peers.len() as u64 == numbers.peers
+            && hub.peers.iter().all(|peer| {
+                peer.entries.len() as u64 == numbers.vectors
+                    && if peer.registers.connected == 1 {
+                        fixed_bits(&peer.registers) && peer.entries.iter().all(|e| entry_bits(e.low, e.control))
+                    } else {
+                        peer.registers == Registers::default() && peer.entries.iter().all(|e| *e == Entry::RESET)
+                    }
             })
+    }
+}
+
+impl Soundness<[u32]> for EarlyExit {
+    fn sound(hub: &[u32]) -> bool {
+        let numbers = hub.numbers();
+        if !accepted(&numbers) || !hub.fits(&numbers) {
+            return false;
+        }
+        let Parts { low, high, data, control, .. } = Parts::of(hub, &numbers);
+        let own = |column| <[u32]>::chunks_exact(column, numbers.vectors as usize);
+        let mut entries = own(low).zip(own(high)).zip(own(data)).zip(own(control));
+        (0..).zip(entries.by_ref()).all(|(id, (((low, high), data), control))| {
+            let registers = hub.registers(id);
+            let joined = registers.connected == 1;
+            (if joined { fixed_bits(&registers) } else { registers == Registers::default() })
+                && low.iter().zip(high).zip(data).zip(control).all(|(((&low, &high), &data), &control)| {
+                    if joined { entry_bits(low, control) } else { Entry { low, high, data, control } == Entry::RESET }
+                })
+        })
     }
 }
 
@@ -43,51 +56,47 @@ fn fixed_bits(r: &Registers) -> bool {
         && r.interrupt <= 1
 }
 
+#[inline(always)]
+fn entry_bits(low: u32, control: u32) -> bool {
+    low & !ADDRESS_BITS | control & !1 == 0
+}
+
 /// Every word is tested, and no branch depends on a peer.
 pub struct Accumulating;
 
-/// The bits of the peers' words that must be 0 where the peers are connected.
-const FIXED: [[u32; PEER_WORDS]; MAX_PEERS] =
-    [[0, !COMMAND_BITS, !BAR_BITS, !BAR_BITS, !1, !MESSAGE_BITS, !1, 0]; MAX_PEERS];
+/// The bits of a peer's words that must be 0 where the peer is connected.
+const FIXED: [u32; PEER_WORDS] = [0, !COMMAND_BITS, !BAR_BITS, !BAR_BITS, !1, !MESSAGE_BITS, !1, 0];
 
-impl Soundness<[u32; HUB_WORDS]> for Accumulating {
-    fn sound(hub: &[u32; HUB_WORDS]) -> bool {
-        let (most, vectors) = (hub[0], hub[1]);
-        let (peers, entries) = hub[PEERS_AT..].split_at(ENTRIES_AT - PEERS_AT);
-        // All ones where the slot or the vector is not in use, so that every bit is fixed.
-        let mut unused = [0; PEER_WORDS * MAX_PEERS];
-        for (id, row) in unused.chunks_exact_mut(PEER_WORDS).enumerate() {
-            row.fill(every_bit((id as u32 >= most) | (peers[PEER_WORDS * id] != 1)));
-        }
-        let beyond: [u32; MAX_VECTORS] = std::array::from_fn(|v| every_bit(v as u32 >= vectors));
-        let mut unused_entries = [0; COLUMN];
-        for (id, row) in unused_entries.chunks_exact_mut(MAX_VECTORS).enumerate() {
-            for (word, beyond) in row.iter_mut().zip(beyond) {
-                *word = unused[PEER_WORDS * id] | beyond;
-            }
-        }
-        (peer_faults(peers, &unused) | entry_faults(entries, &unused_entries)) == 0 && accepted(&hub.numbers())
+/// A copy of the loops for each number of vectors: where the compiler knows it, it vectorises best.
+#[rustfmt::skip]
+const FAULTS: [fn(&Parts<'_>) -> u32; 16] = [
+    faults::<1>, faults::<2>, faults::<3>, faults::<4>, faults::<5>, faults::<6>, faults::<7>, faults::<8>,
+    faults::<9>, faults::<10>, faults::<11>, faults::<12>, faults::<13>, faults::<14>, faults::<15>, faults::<16>,
+];
+
+impl Soundness<[u32]> for Accumulating {
+    fn sound(hub: &[u32]) -> bool {
+        let numbers = hub.numbers();
+        accepted(&numbers) && hub.fits(&numbers) && FAULTS[numbers.vectors as usize - 1](&Parts::of(hub, &numbers)) == 0
     }
 }
 
-// Long loops over whole arrays: those the compiler vectorises.
-
-fn peer_faults(peers: &[u32], unused: &[u32; PEER_WORDS * MAX_PEERS]) -> u32 {
-    let fixed = FIXED.as_flattened();
-    (0..unused.len()).fold(0, |faults, k| faults | peers[k] & (fixed[k] | unused[k]))
-}
-
-fn entry_faults(entries: &[u32], unused: &[u32; COLUMN]) -> u32 {
-    let column = |k: usize| &entries[k * COLUMN..][..COLUMN];
-    let (low, high, data, control) = (column(0), column(1), column(2), column(3));
-    (0..COLUMN).fold(0, |faults, k| {
-        let addresses = low[k] & (!ADDRESS_BITS | unused[k]);
-        // The mask bit is 1 at reset.
-        let controls = (control[k] ^ 1) & (!1 | unused[k]);
-        faults | addresses | (high[k] | data[k]) & unused[k] | controls
-    })
-}
-
-fn every_bit(set: bool) -> u32 {
-    u32::from(set).wrapping_neg()
+fn faults<const VECTORS: usize>(parts: &Parts<'_>) -> u32 {
+    let own = |column| <[u32]>::as_chunks::<VECTORS>(column).0;
+    let (low, high, data, control) = (own(parts.low), own(parts.high), own(parts.data), own(parts.control));
+    let mut faults = 0;
+    for ((((row, low), high), data), control) in parts.rows.iter().zip(low).zip(high).zip(data).zip(control) {
+        // All ones where the peer is not connected, so that every bit is fixed.
+        let away = u32::from(row[0] != 1).wrapping_neg();
+        for k in 0..PEER_WORDS {
+            faults |= row[k] & (FIXED[k] | away);
+        }
+        for v in 0..VECTORS {
+            let address = low[v] & (!ADDRESS_BITS | away);
+            // The mask bit is 1 at reset.
+            let mask = (control[v] ^ 1) & (!1 | away);
+            faults |= address | (high[v] | data[v]) & away | mask;
+        }
+    }
+    faults
 }

@@ -20,7 +20,7 @@ pub use painted::depths;
 mod painted {
     use std::arch::asm;
 
-    use ivshmem::{Delivery, HUB_WORDS, MAX_PEERS};
+    use ivshmem::{Delivery, MAX_PEERS};
     use model::call::Call;
 
     use super::Depth;
@@ -68,7 +68,7 @@ mod painted {
 
     /// The memory that a call is lent, at addresses that stay.
     struct Memory {
-        hub: [u32; HUB_WORDS],
+        hub: Vec<u32>,
         region: Vec<u8>,
         table: [Delivery; MAX_PEERS],
         buffer: [u8; SHARED_BYTES],
@@ -79,7 +79,7 @@ mod painted {
     #[must_use]
     pub fn depths() -> Vec<Depth> {
         let mut deepest = FUNCTIONS.map(|(name, _)| Depth { name, bytes: 0 });
-        for case in cases::SIZES.map(cases::all).iter().flatten() {
+        for case in cases::SIZES.map(cases::all).iter().flatten().filter(|case| !case.empty) {
             for (k, call) in case.calls.iter().enumerate() {
                 let bytes = case_depth(case, k);
                 let depth = &mut deepest[call.kind()];
@@ -91,7 +91,7 @@ mod painted {
 
     fn case_depth(case: &Case, k: usize) -> usize {
         let mut memory = Memory {
-            hub: case.hubs[k],
+            hub: case.hubs[k].clone(),
             region: vec![0; case.region_bytes],
             table: [Delivery::default(); MAX_PEERS],
             buffer: [0; SHARED_BYTES],
@@ -105,7 +105,7 @@ mod painted {
 
     /// The arguments of the C function, each as a 64-bit number.
     fn arguments(call: &Call, memory: &mut Memory) -> Vec<u64> {
-        let hub = [memory.hub.as_mut_ptr() as u64, HUB_WORDS as u64];
+        let hub = [memory.hub.as_mut_ptr() as u64, memory.hub.len() as u64];
         let region = [memory.region.as_mut_ptr() as u64, memory.region.len() as u64];
         let table = [memory.table.as_mut_ptr() as u64, MAX_PEERS as u64];
         let bytes = [memory.buffer.as_mut_ptr() as u64, SHARED_BYTES as u64];

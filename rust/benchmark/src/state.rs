@@ -1,10 +1,12 @@
-//! Where a yardstick keeps the hub: an ordinary struct, or words in the library's layout.
+//! Where a yardstick keeps the hub: an ordinary struct, or words in the library's layout. Both have room for as many peers and
+//! vectors as the set-up asks for, and for no more.
 
 use std::borrow::BorrowMut;
 
-use ivshmem::{HUB_WORDS, MAX_PEERS, MAX_VECTORS};
+use ivshmem::hub_words;
+use model::call::Call;
 
-use crate::rules::{Entry, Numbers, Registers};
+use crate::rules::{Entry, Numbers, Registers, words_asked};
 
 /// A hub's settings, registers and MSI-X entries.
 pub trait State {
@@ -12,57 +14,65 @@ pub trait State {
     fn put_numbers(&mut self, numbers: &Numbers);
     fn registers(&self, id: usize) -> Registers;
     fn put_registers(&mut self, id: usize, registers: &Registers);
-    fn entry(&self, id: usize, vector: usize) -> Entry;
-    fn put_entry(&mut self, id: usize, vector: usize, entry: &Entry);
 
-    /// All numbers zero: what a refused set-up leaves.
+    /// An entry of a hub with these numbers; where it stands may depend on them.
+    fn entry(&self, numbers: &Numbers, id: usize, vector: usize) -> Entry;
+    fn put_entry(&mut self, numbers: &Numbers, id: usize, vector: usize, entry: &Entry);
+
+    /// Whether there is room for just so many peers and vectors. The numbers are accepted ones.
+    fn fits(&self, numbers: &Numbers) -> bool;
+
+    /// A hub with these numbers, which fit, and nobody connected.
+    fn begin(&mut self, numbers: &Numbers);
+
+    /// All zero: what a refused set-up leaves.
     fn clear(&mut self);
 
     /// All registers and entries of a peer at their reset values.
-    fn reset(&mut self, id: usize, connected: u32) {
-        self.put_registers(id, &Registers { connected, ..Registers::default() });
-        for vector in 0..MAX_VECTORS {
-            self.put_entry(id, vector, &Entry::RESET);
-        }
-    }
+    fn reset(&mut self, numbers: &Numbers, id: usize, connected: u32);
 }
 
 /// A form in which a hub is lent to a call.
-pub trait Form {
-    type State: State;
+pub trait Form: State {
     type Owned: BorrowMut<Self> + Clone;
 
     /// What the host owns, with the contents of these words.
-    fn owned(words: &[u32; HUB_WORDS]) -> Self::Owned;
-    fn words(owned: &Self::Owned) -> [u32; HUB_WORDS];
+    fn owned(words: &[u32]) -> Self::Owned;
+    fn words(owned: &Self::Owned) -> Vec<u32>;
 
-    /// Lends these words to a call in this form. Nothing where their number is wrong and the form has no wrong lengths.
-    fn lend<R>(words: &mut [u32], call: impl FnOnce(&mut Self) -> R) -> Option<R>;
+    /// How much memory that is.
+    fn bytes(owned: &Self::Owned) -> usize;
 
-    /// The state, or refusal 10.
-    fn state(&self) -> Result<&Self::State, u32>;
-    fn state_mut(&mut self) -> Result<&mut Self::State, u32>;
+    /// Lends these words to a call in this form.
+    fn lend<R>(words: &mut [u32], call: &Call, make: impl FnOnce(&mut Self) -> R) -> R;
 }
 
 /// A peer of the ordinary struct.
-#[derive(Clone, Copy, Debug)]
-struct Peer {
-    registers: Registers,
-    entries: [Entry; MAX_VECTORS],
+#[derive(Clone, Debug)]
+pub struct Peer {
+    pub registers: Registers,
+    pub entries: Vec<Entry>,
 }
 
 /// The hub as an ordinary struct.
 #[derive(Clone, Debug)]
 pub struct Plain {
-    numbers: Numbers,
-    peers: [Peer; MAX_PEERS],
+    pub numbers: Numbers,
+    pub peers: Vec<Peer>,
 }
 
+const ZERO: Entry = Entry { low: 0, high: 0, data: 0, control: 0 };
+
 impl Plain {
-    fn zero() -> Plain {
-        let entry = Entry { low: 0, high: 0, data: 0, control: 0 };
-        let peer = Peer { registers: Registers::default(), entries: [entry; MAX_VECTORS] };
-        Plain { numbers: Numbers::default(), peers: [peer; MAX_PEERS] }
+    fn with_room(peers: usize, vectors: usize) -> Plain {
+        let peer = Peer { registers: Registers::default(), entries: vec![ZERO; vectors] };
+        Plain { numbers: Numbers::default(), peers: vec![peer; peers] }
+    }
+
+    /// The numbers of peers and vectors that it has room for.
+    fn room(&self) -> Numbers {
+        let vectors = self.peers.first().map_or(0, |peer| peer.entries.len());
+        Numbers { peers: self.peers.len() as u64, vectors: vectors as u64, ..Numbers::default() }
     }
 }
 
@@ -88,86 +98,153 @@ impl State for Plain {
     }
 
     #[inline(always)]
-    fn entry(&self, id: usize, vector: usize) -> Entry {
+    fn entry(&self, _: &Numbers, id: usize, vector: usize) -> Entry {
         self.peers[id].entries[vector]
     }
 
     #[inline(always)]
-    fn put_entry(&mut self, id: usize, vector: usize, entry: &Entry) {
+    fn put_entry(&mut self, _: &Numbers, id: usize, vector: usize, entry: &Entry) {
         self.peers[id].entries[vector] = *entry;
     }
 
     #[inline(always)]
+    fn fits(&self, numbers: &Numbers) -> bool {
+        self.peers.len() as u64 == numbers.peers
+            && self.peers.iter().all(|peer| peer.entries.len() as u64 == numbers.vectors)
+    }
+
+    #[inline(always)]
+    fn begin(&mut self, numbers: &Numbers) {
+        self.numbers = *numbers;
+        for peer in &mut self.peers {
+            peer.registers = Registers::default();
+            peer.entries.fill(Entry::RESET);
+        }
+    }
+
+    #[inline(always)]
     fn clear(&mut self) {
-        *self = Plain::zero();
+        self.numbers = Numbers::default();
+        for peer in &mut self.peers {
+            peer.registers = Registers::default();
+            peer.entries.fill(ZERO);
+        }
+    }
+
+    #[inline(always)]
+    fn reset(&mut self, _: &Numbers, id: usize, connected: u32) {
+        let peer = &mut self.peers[id];
+        peer.registers = Registers { connected, ..Registers::default() };
+        peer.entries.fill(Entry::RESET);
     }
 }
 
 impl Form for Plain {
-    type State = Plain;
     type Owned = Plain;
 
-    fn owned(words: &[u32; HUB_WORDS]) -> Plain {
-        let mut plain = Plain::zero();
-        copy(words, &mut plain);
+    /// Where the words are not as many as they ask for, there are no peers: not as many as the numbers say.
+    fn owned(words: &[u32]) -> Plain {
+        let numbers = words.numbers();
+        if words_asked(&numbers) != words.len() as u128 {
+            return Plain { numbers, peers: Vec::new() };
+        }
+        let mut plain = Plain::with_room(numbers.peers as usize, numbers.vectors as usize);
+        copy(words, &mut plain, &numbers);
         plain
     }
 
-    fn words(owned: &Plain) -> [u32; HUB_WORDS] {
-        let mut words = [0; HUB_WORDS];
-        copy(owned, &mut words);
+    fn words(owned: &Plain) -> Vec<u32> {
+        let room = owned.room();
+        let mut words = vec![0; hub_words(room.peers as usize, room.vectors as usize)];
+        copy(owned, &mut words[..], &room);
         words
     }
 
-    fn lend<R>(words: &mut [u32], call: impl FnOnce(&mut Plain) -> R) -> Option<R> {
-        let words = array_mut(words).ok()?;
-        let mut plain = Plain::owned(words);
-        let result = call(&mut plain);
-        *words = Plain::words(&plain);
-        Some(result)
+    fn bytes(owned: &Plain) -> usize {
+        let entries = |peer: &Peer| size_of_val(peer) + size_of_val(&peer.entries[..]);
+        size_of_val(owned) + owned.peers.iter().map(entries).sum::<usize>()
     }
 
-    fn state(&self) -> Result<&Plain, u32> {
-        Ok(self)
-    }
-
-    fn state_mut(&mut self) -> Result<&mut Plain, u32> {
-        Ok(self)
+    fn lend<R>(words: &mut [u32], call: &Call, make: impl FnOnce(&mut Plain) -> R) -> R {
+        let mut plain = match call {
+            // A set-up finds a struct with the room that it asks for where the words are as many, otherwise one without any.
+            Call::SetUp(s) if words_asked(&s.into()) == words.len() as u128 => {
+                Plain::with_room(s.peers as usize, s.vectors as usize)
+            }
+            Call::SetUp(_) => Plain::with_room(0, 0),
+            _ => Plain::owned(words),
+        };
+        let result = make(&mut plain);
+        let left = Plain::words(&plain);
+        match call {
+            _ if left.len() == words.len() => words.copy_from_slice(&left),
+            Call::SetUp(_) => words.fill(0),
+            _ => {}
+        }
+        result
     }
 }
 
-fn copy(from: &impl State, to: &mut impl State) {
+fn copy(from: &(impl State + ?Sized), to: &mut (impl State + ?Sized), room: &Numbers) {
     to.put_numbers(&from.numbers());
-    for id in 0..MAX_PEERS {
+    for id in 0..room.peers as usize {
         to.put_registers(id, &from.registers(id));
-        for vector in 0..MAX_VECTORS {
-            to.put_entry(id, vector, &from.entry(id, vector));
+        for vector in 0..room.vectors as usize {
+            to.put_entry(room, id, vector, &from.entry(room, id, vector));
         }
     }
 }
 
+/// Words of the settings.
+const SETTING_WORDS: usize = 10;
 /// Words of a peer's registers, in the order of [`Registers`].
 pub const PEER_WORDS: usize = 8;
-/// Where the peers begin, behind the settings.
-pub const PEERS_AT: usize = 10;
-/// Where the entries begin: four columns, of the low addresses, the high ones, the data and the controls.
-pub const ENTRIES_AT: usize = PEERS_AT + PEER_WORDS * MAX_PEERS;
-/// Words of a column.
-pub const COLUMN: usize = MAX_PEERS * MAX_VECTORS;
 
-impl State for [u32; HUB_WORDS] {
+/// The parts of a hub's words, which are as many as its numbers ask for: a row for each peer, and the entries in four columns.
+pub struct Parts<'a> {
+    pub rows: &'a [[u32; PEER_WORDS]],
+    pub low: &'a [u32],
+    pub high: &'a [u32],
+    pub data: &'a [u32],
+    pub control: &'a [u32],
+}
+
+impl Parts<'_> {
+    #[inline(always)]
+    pub fn of<'a>(words: &'a [u32], numbers: &Numbers) -> Parts<'a> {
+        let (peers, vectors) = (numbers.peers as usize, numbers.vectors as usize);
+        let (rows, entries) = words[SETTING_WORDS..].split_at(PEER_WORDS * peers);
+        let (low, entries) = entries.split_at(peers * vectors);
+        let (high, entries) = entries.split_at(peers * vectors);
+        let (data, control) = entries.split_at(peers * vectors);
+        Parts { rows: rows.as_chunks().0, low, high, data, control }
+    }
+}
+
+/// Where an entry's words stand.
+#[inline(always)]
+fn entry_words(numbers: &Numbers, id: usize, vector: usize) -> [usize; 4] {
+    let (peers, vectors) = (numbers.peers as usize, numbers.vectors as usize);
+    let low = SETTING_WORDS + PEER_WORDS * peers + id * vectors + vector;
+    let column = peers * vectors;
+    [low, low + column, low + 2 * column, low + 3 * column]
+}
+
+impl State for [u32] {
+    /// Of fewer words than there are settings, none.
     #[inline(always)]
     fn numbers(&self) -> Numbers {
+        let Some(words) = self.first_chunk::<SETTING_WORDS>() else { return Numbers::default() };
         Numbers {
-            peers: self[0].into(),
-            vectors: self[1].into(),
-            state_table: self[2].into(),
-            read_write: self[3].into(),
-            output: self[4].into(),
-            base: u64::from(self[6]) << 32 | u64::from(self[5]),
-            protocol: self[7].into(),
-            subsystem_vendor: self[8].into(),
-            subsystem: self[9].into(),
+            peers: words[0].into(),
+            vectors: words[1].into(),
+            state_table: words[2].into(),
+            read_write: words[3].into(),
+            output: words[4].into(),
+            base: u64::from(words[6]) << 32 | u64::from(words[5]),
+            protocol: words[7].into(),
+            subsystem_vendor: words[8].into(),
+            subsystem: words[9].into(),
         }
     }
 
@@ -182,7 +259,7 @@ impl State for [u32; HUB_WORDS] {
 
     #[inline(always)]
     fn registers(&self, id: usize) -> Registers {
-        let row = &self[PEERS_AT + PEER_WORDS * id..][..PEER_WORDS];
+        let row = &self[SETTING_WORDS + PEER_WORDS * id..][..PEER_WORDS];
         Registers {
             connected: row[0],
             command: row[1],
@@ -198,65 +275,66 @@ impl State for [u32; HUB_WORDS] {
     #[inline(always)]
     fn put_registers(&mut self, id: usize, r: &Registers) {
         let row = [r.connected, r.command, r.bar0, r.bar1, r.privileged, r.message, r.interrupt, r.state];
-        self[PEERS_AT + PEER_WORDS * id..][..PEER_WORDS].copy_from_slice(&row);
+        self[SETTING_WORDS + PEER_WORDS * id..][..PEER_WORDS].copy_from_slice(&row);
     }
 
     #[inline(always)]
-    fn entry(&self, id: usize, vector: usize) -> Entry {
-        let at = ENTRIES_AT + id * MAX_VECTORS + vector;
-        Entry { low: self[at], high: self[at + COLUMN], data: self[at + 2 * COLUMN], control: self[at + 3 * COLUMN] }
+    fn entry(&self, numbers: &Numbers, id: usize, vector: usize) -> Entry {
+        let [low, high, data, control] = entry_words(numbers, id, vector).map(|at| self[at]);
+        Entry { low, high, data, control }
     }
 
     #[inline(always)]
-    fn put_entry(&mut self, id: usize, vector: usize, entry: &Entry) {
-        let at = ENTRIES_AT + id * MAX_VECTORS + vector;
-        self[at] = entry.low;
-        self[at + COLUMN] = entry.high;
-        self[at + 2 * COLUMN] = entry.data;
-        self[at + 3 * COLUMN] = entry.control;
-    }
-
-    #[inline(always)]
-    fn reset(&mut self, id: usize, connected: u32) {
-        let row = &mut self[PEERS_AT + PEER_WORDS * id..][..PEER_WORDS];
-        row.fill(0);
-        row[0] = connected;
-        for (column, reset) in [0, 0, 0, 1].into_iter().enumerate() {
-            self[ENTRIES_AT + column * COLUMN + id * MAX_VECTORS..][..MAX_VECTORS].fill(reset);
+    fn put_entry(&mut self, numbers: &Numbers, id: usize, vector: usize, entry: &Entry) {
+        let words = [entry.low, entry.high, entry.data, entry.control];
+        for (at, word) in entry_words(numbers, id, vector).into_iter().zip(words) {
+            self[at] = word;
         }
     }
 
     #[inline(always)]
+    fn fits(&self, numbers: &Numbers) -> bool {
+        self.len() == hub_words(numbers.peers as usize, numbers.vectors as usize)
+    }
+
+    #[inline(always)]
+    fn begin(&mut self, numbers: &Numbers) {
+        self.put_numbers(numbers);
+        let [.., control] = entry_words(numbers, 0, 0);
+        self[SETTING_WORDS..control].fill(0);
+        self[control..].fill(1);
+    }
+
+    #[inline(always)]
     fn clear(&mut self) {
-        *self = [0; HUB_WORDS];
+        self.fill(0);
+    }
+
+    #[inline(always)]
+    fn reset(&mut self, numbers: &Numbers, id: usize, connected: u32) {
+        self.put_registers(id, &Registers { connected, ..Registers::default() });
+        for (start, reset) in entry_words(numbers, id, 0).into_iter().zip([0, 0, 0, 1]) {
+            self[start..][..numbers.vectors as usize].fill(reset);
+        }
     }
 }
 
 impl Form for [u32] {
-    type State = [u32; HUB_WORDS];
-    type Owned = [u32; HUB_WORDS];
+    type Owned = Vec<u32>;
 
-    fn owned(words: &[u32; HUB_WORDS]) -> [u32; HUB_WORDS] {
-        *words
+    fn owned(words: &[u32]) -> Vec<u32> {
+        words.to_vec()
     }
 
-    fn words(owned: &[u32; HUB_WORDS]) -> [u32; HUB_WORDS] {
-        *owned
+    fn words(owned: &Vec<u32>) -> Vec<u32> {
+        owned.clone()
     }
 
-    fn lend<R>(words: &mut [u32], call: impl FnOnce(&mut [u32]) -> R) -> Option<R> {
-        Some(call(words))
+    fn bytes(owned: &Vec<u32>) -> usize {
+        size_of_val(&owned[..])
     }
 
-    fn state(&self) -> Result<&[u32; HUB_WORDS], u32> {
-        self.try_into().map_err(|_| 10)
+    fn lend<R>(words: &mut [u32], _: &Call, make: impl FnOnce(&mut [u32]) -> R) -> R {
+        make(words)
     }
-
-    fn state_mut(&mut self) -> Result<&mut [u32; HUB_WORDS], u32> {
-        array_mut(self)
-    }
-}
-
-fn array_mut(words: &mut [u32]) -> Result<&mut [u32; HUB_WORDS], u32> {
-    words.try_into().map_err(|_| 10)
 }

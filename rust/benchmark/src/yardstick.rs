@@ -5,7 +5,10 @@ use std::marker::PhantomData;
 use ivshmem::raw::{Counted, Reply, SectionReply};
 use ivshmem::{Delivery, PeerId, Section, Settings, Vector, register};
 
-use crate::device::Device;
+use model::call::Call;
+use model::subject::Answer;
+
+use crate::device::{Device, Lending, perform_by};
 use crate::rules::{self, BUS_MASTER, FUNCTION_MASK, MEMORY_SPACE, MSIX_ENABLE, Numbers, Registers};
 use crate::soundness::{Accumulating, EarlyExit, Soundness};
 use crate::state::{Form, Plain, State};
@@ -51,9 +54,9 @@ impl Lent {
     }
 }
 
-impl<F: Form + ?Sized, T: Soundness<F::State>> Yardstick<F, T> {
+impl<F: State + ?Sized, T: Soundness<F>> Yardstick<F, T> {
     /// Checks 10, 2, 11, 3 and 4.
-    fn admit(hub: &F::State, lent: &Lent, id: u64) -> Result<Caller, u32> {
+    fn admit(hub: &F, lent: &Lent, id: u64) -> Result<Caller, u32> {
         if !T::sound(hub) {
             return Err(10);
         }
@@ -75,7 +78,7 @@ impl<F: Form + ?Sized, T: Soundness<F::State>> Yardstick<F, T> {
         Ok(Caller { numbers, id, registers })
     }
 
-    fn join(hub: &mut F::State, id: u64) -> Result<u32, u32> {
+    fn join(hub: &mut F, id: u64) -> Result<u32, u32> {
         if !T::sound(hub) {
             return Err(10);
         }
@@ -85,25 +88,19 @@ impl<F: Form + ?Sized, T: Soundness<F::State>> Yardstick<F, T> {
         if hub.registers(id as usize).connected == 1 {
             return Err(5);
         }
-        hub.reset(id as usize, 1);
+        hub.reset(&hub.numbers(), id as usize, 1);
         Ok(0)
     }
 
     /// Reset and disconnect.
-    fn restart(
-        hub: &mut F::State,
-        region: &mut [u8],
-        table: &mut [Delivery],
-        id: u64,
-        connected: u32,
-    ) -> Result<usize, u32> {
+    fn restart(hub: &mut F, region: &mut [u8], table: &mut [Delivery], id: u64, connected: u32) -> Result<usize, u32> {
         let caller = Self::admit(hub, &Lent::both(region, table), id)?;
-        hub.reset(caller.id, connected);
+        hub.reset(&caller.numbers, caller.id, connected);
         Ok(announce(hub, region, table, &caller, 0))
     }
 
     fn store_register(
-        hub: &mut F::State,
+        hub: &mut F,
         region: &mut [u8],
         table: &mut [Delivery],
         id: u64,
@@ -122,7 +119,8 @@ impl<F: Form + ?Sized, T: Soundness<F::State>> Yardstick<F, T> {
                 Ok(0)
             }
             register::DOORBELL => {
-                let Some(delivery) = ring(hub, &caller.numbers, value >> 16, value & 0xffff) else { return Ok(0) };
+                let (target, vector) = ((value >> 16) as usize, (value & 0xffff) as usize);
+                let Some(delivery) = ring(hub, &caller.numbers, target, vector) else { return Ok(0) };
                 table[0] = delivery;
                 Ok(1)
             }
@@ -135,7 +133,21 @@ impl<F: Form + ?Sized, T: Soundness<F::State>> Yardstick<F, T> {
         }
     }
 
-    fn read_register(hub: &F::State, id: u64, offset: u64, width: u64) -> Result<u32, u32> {
+    fn read_configuration(hub: &F, id: u64, offset: u64, width: u64) -> Result<u32, u32> {
+        let caller = Self::admit(hub, &Lent::NOTHING, id)?;
+        rules::configuration_access(offset, width)?;
+        Ok(rules::configuration_read(&caller.numbers, &caller.registers, offset, width))
+    }
+
+    fn write_configuration(hub: &mut F, id: u64, offset: u64, width: u64, value: u32) -> Result<u32, u32> {
+        let mut caller = Self::admit(hub, &Lent::NOTHING, id)?;
+        rules::configuration_access(offset, width)?;
+        rules::configuration_write(&mut caller.registers, offset, width, value);
+        hub.put_registers(caller.id, &caller.registers);
+        Ok(0)
+    }
+
+    fn read_register(hub: &F, id: u64, offset: u64, width: u64) -> Result<u32, u32> {
         let caller = Self::admit(hub, &Lent::NOTHING, id)?;
         rules::bar_access(offset, width)?;
         if !caller.memory_space() {
@@ -150,7 +162,7 @@ impl<F: Form + ?Sized, T: Soundness<F::State>> Yardstick<F, T> {
         })
     }
 
-    fn read_msix(hub: &F::State, id: u64, offset: u64, width: u64) -> Result<u32, u32> {
+    fn read_msix(hub: &F, id: u64, offset: u64, width: u64) -> Result<u32, u32> {
         let caller = Self::admit(hub, &Lent::NOTHING, id)?;
         rules::bar_access(offset, width)?;
         if !caller.memory_space() {
@@ -160,34 +172,40 @@ impl<F: Form + ?Sized, T: Soundness<F::State>> Yardstick<F, T> {
         if vector >= caller.numbers.vectors {
             return Ok(0);
         }
-        Ok(rules::entry_word(&hub.entry(caller.id, vector as usize), offset % 16))
+        Ok(rules::entry_word(&hub.entry(&caller.numbers, caller.id, vector as usize), offset % 16))
     }
 
-    fn write_msix(hub: &mut F::State, id: u64, offset: u64, width: u64, value: u32) -> Result<u32, u32> {
+    fn write_msix(hub: &mut F, id: u64, offset: u64, width: u64, value: u32) -> Result<u32, u32> {
         let caller = Self::admit(hub, &Lent::NOTHING, id)?;
         rules::bar_access(offset, width)?;
         let vector = offset / 16;
         if caller.memory_space() && vector < caller.numbers.vectors {
-            let mut entry = hub.entry(caller.id, vector as usize);
+            let mut entry = hub.entry(&caller.numbers, caller.id, vector as usize);
             rules::put_entry_word(&mut entry, offset % 16, value);
-            hub.put_entry(caller.id, vector as usize, &entry);
+            hub.put_entry(&caller.numbers, caller.id, vector as usize, &entry);
         }
         Ok(0)
     }
 
     /// The section of a shared range, for a call that is lent the region or not.
-    fn place(hub: &F::State, lent: &Lent, id: u64, offset: u64, length: u64) -> Result<Section, u32> {
+    fn place(hub: &F, lent: &Lent, id: u64, offset: u64, length: u64) -> Result<Section, u32> {
         let caller = Self::admit(hub, lent, id)?;
         rules::section(&caller.numbers, offset, length)
     }
 }
 
 /// Vector 0 of every other peer is rung, once the State Table has the value; answers the count of deliveries.
-fn announce(hub: &mut impl State, region: &mut [u8], table: &mut [Delivery], caller: &Caller, value: u32) -> usize {
+fn announce(
+    hub: &mut (impl State + ?Sized),
+    region: &mut [u8],
+    table: &mut [Delivery],
+    caller: &Caller,
+    value: u32,
+) -> usize {
     region[4 * caller.id..][..4].copy_from_slice(&value.to_le_bytes());
     let mut count = 0;
-    for target in 0..caller.numbers.peers as u32 {
-        if target as usize == caller.id {
+    for target in 0..caller.numbers.peers as usize {
+        if target == caller.id {
             continue;
         }
         if let Some(delivery) = ring(hub, &caller.numbers, target, 0) {
@@ -199,33 +217,37 @@ fn announce(hub: &mut impl State, region: &mut [u8], table: &mut [Delivery], cal
 }
 
 #[inline(always)]
-fn ring(hub: &mut impl State, numbers: &Numbers, target: u32, vector: u32) -> Option<Delivery> {
-    if u64::from(target) >= numbers.peers || u64::from(vector) >= numbers.vectors {
+fn ring(hub: &mut (impl State + ?Sized), numbers: &Numbers, target: usize, vector: usize) -> Option<Delivery> {
+    if target as u64 >= numbers.peers || vector as u64 >= numbers.vectors {
         return None;
     }
-    let id = target as usize;
-    let mut registers = hub.registers(id);
-    let entry = hub.entry(id, vector as usize);
+    let mut registers = hub.registers(target);
     let open = registers.connected == 1
         && registers.command & BUS_MASTER != 0
         && registers.message & (MSIX_ENABLE | FUNCTION_MASK) == MSIX_ENABLE
-        && registers.interrupt & 1 == 1
-        && entry.control & 1 == 0;
+        && registers.interrupt & 1 == 1;
     if !open {
+        return None;
+    }
+    let entry = hub.entry(numbers, target, vector);
+    if entry.control & 1 == 1 {
         return None;
     }
     if registers.privileged & 1 == 1 {
         registers.interrupt = 0;
-        hub.put_registers(id, &registers);
+        hub.put_registers(target, &registers);
     }
     let address = u64::from(entry.high) << 32 | u64::from(entry.low);
-    Some(Delivery { target: PeerId(target), vector: Vector(vector), address, payload: entry.data })
+    let (target, vector) = (PeerId(target as u16), Vector(vector as u16));
+    Some(Delivery { address, payload: entry.data, target, vector })
 }
 
-fn set_up<S: State>(hub: &mut S, region: &mut [u8], settings: &Settings) -> Result<u32, u32> {
+fn begin(hub: &mut (impl State + ?Sized), region: &mut [u8], settings: &Settings) -> Result<u32, u32> {
     let numbers = Numbers::from(settings);
     let refusal = if !rules::accepted(&numbers) {
         Err(1)
+    } else if !hub.fits(&numbers) {
+        Err(10)
     } else if region.len() as u64 != rules::total(&numbers) {
         Err(2)
     } else {
@@ -235,10 +257,7 @@ fn set_up<S: State>(hub: &mut S, region: &mut [u8], settings: &Settings) -> Resu
         hub.clear();
         return refusal;
     }
-    hub.put_numbers(&numbers);
-    for id in 0..ivshmem::MAX_PEERS {
-        hub.reset(id, 0);
-    }
+    hub.begin(&numbers);
     region.fill(0);
     refusal
 }
@@ -262,58 +281,46 @@ fn section_reply(outcome: Result<Section, u32>, id: u64) -> SectionReply {
         Err(number) => return SectionReply { reply: reply(Err(number)), ..SectionReply::default() },
         Ok(section @ Section::StateTable) => (1, 0, rules::may_store(section, id)),
         Ok(section @ Section::ReadWrite) => (2, 0, rules::may_store(section, id)),
-        Ok(section @ Section::Output(owner)) => (3, owner.0, rules::may_store(section, id)),
+        Ok(section @ Section::Output(owner)) => (3, owner.0.into(), rules::may_store(section, id)),
     };
     SectionReply { reply: reply(Ok(0)), kind, owner, store: store.into() }
 }
 
-// Every call is a function of its own, like the library's.
-impl<F: Form + ?Sized, T: Soundness<F::State>> Device for Yardstick<F, T> {
-    type Hub = F;
-
+// Every call is a function of its own, like the library's, with the arguments of [`ivshmem::raw`].
+impl<F: State + ?Sized, T: Soundness<F>> Yardstick<F, T> {
     #[inline(never)]
     fn set_up(hub: &mut F, region: &mut [u8], settings: &Settings) -> Reply {
-        reply(hub.state_mut().and_then(|hub| set_up(hub, region, settings)))
+        reply(begin(hub, region, settings))
     }
 
     #[inline(never)]
     fn connect(hub: &mut F, id: u64) -> Reply {
-        reply(hub.state_mut().and_then(|hub| Self::join(hub, id)))
+        reply(Self::join(hub, id))
     }
 
     #[inline(never)]
     fn disconnect(hub: &mut F, region: &mut [u8], table: &mut [Delivery], id: u64) -> Counted {
-        counted(hub.state_mut().and_then(|hub| Self::restart(hub, region, table, id, 0)))
+        counted(Self::restart(hub, region, table, id, 0))
     }
 
     #[inline(never)]
     fn reset(hub: &mut F, region: &mut [u8], table: &mut [Delivery], id: u64) -> Counted {
-        counted(hub.state_mut().and_then(|hub| Self::restart(hub, region, table, id, 1)))
+        counted(Self::restart(hub, region, table, id, 1))
     }
 
     #[inline(never)]
     fn configuration_read(hub: &F, id: u64, offset: u64, width: u64) -> Reply {
-        reply(hub.state().and_then(|hub| {
-            let caller = Self::admit(hub, &Lent::NOTHING, id)?;
-            rules::configuration_access(offset, width)?;
-            Ok(rules::configuration_read(&caller.numbers, &caller.registers, offset, width))
-        }))
+        reply(Self::read_configuration(hub, id, offset, width))
     }
 
     #[inline(never)]
     fn configuration_write(hub: &mut F, id: u64, offset: u64, width: u64, value: u32) -> Reply {
-        reply(hub.state_mut().and_then(|hub| {
-            let mut caller = Self::admit(hub, &Lent::NOTHING, id)?;
-            rules::configuration_access(offset, width)?;
-            rules::configuration_write(&mut caller.registers, offset, width, value);
-            hub.put_registers(caller.id, &caller.registers);
-            Ok(0)
-        }))
+        reply(Self::write_configuration(hub, id, offset, width, value))
     }
 
     #[inline(never)]
     fn register_read(hub: &F, id: u64, offset: u64, width: u64) -> Reply {
-        reply(hub.state().and_then(|hub| Self::read_register(hub, id, offset, width)))
+        reply(Self::read_register(hub, id, offset, width))
     }
 
     #[inline(never)]
@@ -326,44 +333,50 @@ impl<F: Form + ?Sized, T: Soundness<F::State>> Device for Yardstick<F, T> {
         width: u64,
         value: u32,
     ) -> Counted {
-        let hub = hub.state_mut();
-        counted(hub.and_then(|hub| Self::store_register(hub, region, table, id, (offset, width), value)))
+        counted(Self::store_register(hub, region, table, id, (offset, width), value))
     }
 
     #[inline(never)]
     fn msix_read(hub: &F, id: u64, offset: u64, width: u64) -> Reply {
-        reply(hub.state().and_then(|hub| Self::read_msix(hub, id, offset, width)))
+        reply(Self::read_msix(hub, id, offset, width))
     }
 
     #[inline(never)]
     fn msix_write(hub: &mut F, id: u64, offset: u64, width: u64, value: u32) -> Reply {
-        reply(hub.state_mut().and_then(|hub| Self::write_msix(hub, id, offset, width, value)))
+        reply(Self::write_msix(hub, id, offset, width, value))
     }
 
     #[inline(never)]
     fn section(hub: &F, id: u64, offset: u64, length: u64) -> SectionReply {
-        let section = hub.state().and_then(|hub| Self::place(hub, &Lent::NOTHING, id, offset, length));
-        section_reply(section, id)
+        section_reply(Self::place(hub, &Lent::NOTHING, id, offset, length), id)
     }
 
     #[inline(never)]
     fn load(hub: &F, region: &[u8], id: u64, offset: u64, buffer: &mut [u8]) -> Reply {
-        reply(hub.state().and_then(|hub| {
-            Self::place(hub, &Lent::region(region), id, offset, buffer.len() as u64)?;
+        let section = Self::place(hub, &Lent::region(region), id, offset, buffer.len() as u64);
+        reply(section.map(|_| {
             buffer.copy_from_slice(&region[offset as usize..][..buffer.len()]);
-            Ok(0)
+            0
         }))
     }
 
     #[inline(never)]
     fn store(hub: &F, region: &mut [u8], id: u64, offset: u64, bytes: &[u8]) -> Reply {
-        reply(hub.state().and_then(|hub| {
-            let section = Self::place(hub, &Lent::region(region), id, offset, bytes.len() as u64)?;
+        let section = Self::place(hub, &Lent::region(region), id, offset, bytes.len() as u64);
+        reply(section.and_then(|section| {
             if !rules::may_store(section, id) {
                 return Err(9);
             }
             region[offset as usize..][..bytes.len()].copy_from_slice(bytes);
             Ok(0)
         }))
+    }
+}
+
+impl<F: Form + ?Sized, T: Soundness<F>> Device for Yardstick<F, T> {
+    type Hub = F;
+
+    fn perform(hub: &mut F, call: &Call, lent: Lending<'_>) -> Answer {
+        perform_by!(Self, hub, call, lent)
     }
 }
