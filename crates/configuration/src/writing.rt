@@ -16,7 +16,7 @@ fn merged(bits: u64, mask: u32, old: u32, new: u64) -> u32
     (old & !(m as u32)) | ((new & m) as u32)
 }
 
-// The same for a register that is the last byte of its word.
+// The same for a register that is the last byte of its word. With that lane off it stays as it is, any bits above a byte too.
 fn merged_last(bits: u64, mask: u32, old: u32, new: u64) -> u32
     requires { ⌜ mask < 256 ⌝ }
     ensures { λ r. ⌜ r ≡ mergeLast bits mask old new ⌝ }
@@ -27,7 +27,7 @@ fn merged_last(bits: u64, mask: u32, old: u32, new: u64) -> u32
     (old & (255 - mask)) | (((new / 16777216) & (mask as u64)) as u32)
 }
 
-// The word at an offset written, in the lanes of `bits`.
+// The word at an offset written, in the lanes of `bits`. The masks could depend on the settings; none does today.
 fn write_word(s: Settings, p: Peer, at: u64, bits: u64, new: u64) -> Peer
     ensures { λ r. ⌜ r ≡ wordWritten s p at bits new ⌝ }
 {
