@@ -1,15 +1,15 @@
 -- Laws of specs/Layout.antt: each part of the hub is a table of words, so parts are compared word by word, whichever part it is.
-use Prim.Native.Nat.{ℕ, _+_, _-_, _*_, _/_, _%_, _^_, _≤_, _<_}
+use Prim.Native.Nat.{ℕ, zero, suc, _+_, _-_, _*_, _/_, _%_, _^_, _≤_, _<_}
 use mathlib.Core.Bool.{Bool, true, false, cond}
 use mathlib.Core.List.{List, [], _∷_}
-use mathlib.Core.Path.{_≡_, refl, sym, ap, _∙_}
+use mathlib.Core.Path.{_≡_, refl, sym, ap, ap₂, _∙_}
 use native.Mathlib.Nat.{add-zero, not-suc-le-zero, le-trans}
 use native.Mathlib.Omega.{arith}
 use borrow.Author.Tests.{eq-eqb, eqb-true, le-leb, leb-true, ltb-true, ltb-false}
 use lib.Dec.{eqb, leb, ltb}
 use lib.ListN.{length, getD, replicate, getD-replicate, length-replicate, List·getD-eq-default}
 use lib.Seq.{ext-getD}
-use Rattle.common.proofs.ListLaws.{length-tabulate, getD-tabulate, tabulate-at, tabulate-ext, set-tabulate}
+use Rattle.common.proofs.ListLaws.{length-tabulate, getD-tabulate, tabulate-at, tabulate-ext, tabulate-const, set-tabulate}
 use Rattle.common.proofs.TestLaws.{every-true}
 use Rattle.common.specs.Lists.{tabulate}
 use Rattle.common.specs.Tests.{every}
@@ -18,12 +18,13 @@ use Rattle.device.proofs.SizeLaws.{maxPeers-small, maxVectors-small}
 use Rattle.device.specs.declared.Entry.{Entry}
 use Rattle.device.specs.declared.Peer.{Peer}
 use Rattle.device.specs.declared.Settings.{Settings}
-use Rattle.device.specs.SetUp.{accepted}
+use Rattle.device.specs.Reset.{resetPeer, resetEntry}
+use Rattle.device.specs.SetUp.{accepted, freshHub}
 use Rattle.device.specs.Sizes.{maxPeers, maxVectors}
-use Rattle.device.specs.World.{Hub, Slot, zeroSlot, zeroEntry, zeroHub, slotAt, entryAt, withSlot, withPeer, withEntry}
+use Rattle.device.specs.World.{Hub, Slot, zeroSlot, zeroEntry, zeroHub, resetSlot, slotAt, entryAt, withSlot, withPeer, withEntry}
 use Rattle.words.specs.Layout.{hubWords, word, settingsOf, peerStart, peerOf, entryStart, entryOf, slotOf, decoded, fits, hubOf, Known, KnownVector, Storable}
-use Rattle.words.specs.Parts.{settingsWords, peerFrom, entryFrom, Copied}
-use Rattle.words.proofs.IndexLaws.{EntryPlace, entries-small, entry-place, entry-apart}
+use Rattle.words.specs.Parts.{settingsWords, peerFrom, entryFrom, Copied, Filled, Set}
+use Rattle.words.proofs.IndexLaws.{EntryPlace, entries-small, row-below, entry-place, entry-apart}
 use Rattle.words.proofs.PartLaws.{copied-at}
 
 -- words that are a hub of n peers and m vectors
@@ -247,7 +248,7 @@ module _ (n m : ℕ) (a b : List ℕ) where
 
 -- the settings are stored in as many words as they ask for
 pub settings-put : (a b : List ℕ) (s : Settings) → Storable s → length b ≡ hubWords (s .peers) (s .vectors)
-    → Copied a b (λ r. 0 + r * 1) (settingsWords s) 10 → (fits b ≡ true) × (hubOf b .settings ≡ s)
+    → Copied a b (λ r. 0 + r * 1) (settingsWords s) 10 → Set a b s
 unfolding tabulate settingsOf
 settings-put a b s small size stored =
     let copied : Copied a b (λ r. r) (settingsWords s) 10 = copied-at (λ r. omega arith) stored in
@@ -261,7 +262,7 @@ settings-put a b s small size stored =
       less = small .less;
       size = size;
     } in
-    (sized-fits z, settings-at z ∙ e)
+    record { fits = sized-fits z; settings = settings-at z ∙ e; kept = λ k l. copied .kept k (λ r h q. omega arith) }
 
 module _ {n m : ℕ} (a b : List ℕ) (z : Sized a n m) (l : length b ≡ length a) where
   -- words of which the first ten are the same are as large
@@ -311,22 +312,66 @@ module _ {n m : ℕ} (a b : List ℕ) (z : Sized a n m) (l : length b ≡ length
       (λ w hw c _. copied .kept _ (λ d _ same. ne (entry-apart n m c d j i w v hj hi hw hv same .0)))))
 
 -- words that are all zero
+zero-word : (n k : ℕ) → word (replicate n 0) k ≡ 0
+zero-word n k = go (ltb k n) refl
+  where
+    go : (t : Bool) → ltb k n ≡ t → word (replicate n 0) k ≡ 0
+    go true e = getD-replicate n k 0 0 (ltb-true k n e)
+    go false e = List·getD-eq-default (replicate n 0) 0 {n = k} (rw length-replicate (ltb-false k n e))
+
 pub zero-words : (n : ℕ) → hubOf (replicate n 0) ≡ zeroHub
 unfolding decoded settingsOf tabulate zeroHub
 zero-words n =
     by-fits (replicate n 0)
     (λ z.
     hub-decoded z
-    ∙ ap (λ (k : ℕ). decoded k (word (replicate n 0) 1) (replicate n 0)) (same 0)
-    ∙ (λ t. record { settings = settings-same [] (replicate n 0) (λ k _. same k) t; slots = [] }))
+    ∙ ap (λ (k : ℕ). decoded k (word (replicate n 0) 1) (replicate n 0)) (zero-word n 0)
+    ∙ (λ t. record { settings = settings-same [] (replicate n 0) (λ k _. zero-word n k) t; slots = [] }))
     (λ e. e)
-  where
-    zeros : (k : ℕ) (t : Bool) → ltb k n ≡ t → word (replicate n 0) k ≡ 0
-    zeros k true e = getD-replicate n k 0 0 (ltb-true k n e)
-    zeros k false e = List·getD-eq-default (replicate n 0) 0 {n = k} (rw length-replicate (ltb-false k n e))
 
-    same : (k : ℕ) → word (replicate n 0) k ≡ 0
-    same k = zeros k (ltb k n) refl
+-- words that hold 0 but for the settings, and 1 in the last column, are a hub at reset
+fresh-words : {ws : List ℕ} {n m : ℕ} (s : Settings) → Sized ws n m → hubOf ws .settings ≡ s
+    → ((k : ℕ) → 10 ≤ k → k < 10 + 8 * n + 3 * (n * m) → word ws k ≡ 0)
+    → ((r : ℕ) → r < n * m → word ws (10 + 8 * n + 3 * (n * m) + r) ≡ 1) → hubOf ws ≡ freshHub s
+unfolding decoded freshHub resetSlot slotOf tabulate
+fresh-words {ws} {n} {m} s z settings zeros ones =
+    hub-decoded z
+    ∙ (λ t. record { settings = (sym (settings-at z) ∙ settings) t; slots = (tabulate-ext n (slotOf n m ws) (λ _. slot) slots ∙ tabulate-const n slot) t })
+    ∙ ap₂ (λ (k j : ℕ). record { settings = s; slots = replicate k (record { peer = resetPeer 0; entries = replicate j resetEntry }) })
+    (sym (peers-at z) ∙ ap (λ (x : Settings). x .peers) settings) (sym (vectors-at z) ∙ ap (λ (x : Settings). x .vectors) settings)
+  where
+    slot : Slot
+    slot = record { peer = resetPeer 0; entries = replicate m resetEntry }
+
+    entry : (i v : ℕ) → i < n → v < m → (c : ℕ) → c < 4 → word ws (entryStart n m c i v) ≡ word (entryWords resetEntry) c
+    entry i v hi hv zero hc = zeros _ (omega arith) (omega (arith, row-below n m hi hv))
+    entry i v hi hv (suc zero) hc = zeros _ (omega arith) (omega (arith, row-below n m hi hv))
+    entry i v hi hv (suc (suc zero)) hc = zeros _ (omega arith) (omega (arith, row-below n m hi hv))
+    entry i v hi hv (suc (suc (suc zero))) hc = ones (i * m + v) (row-below n m hi hv)
+    entry i v hi hv (suc (suc (suc (suc c)))) hc = absurd (omega arith)
+
+    slots : (i : ℕ) → i < n → slotOf n m ws i ≡ slot
+    slots i hi =
+        λ t. record {
+          peer = peer-is ws i (resetPeer 0) (λ r h. zeros _ (omega arith) (omega arith) ∙ sym (getD-replicate {A = ℕ} 8 r 0 0 h)) t;
+          entries =
+              (tabulate-ext m (entryOf n m ws i) (λ _. resetEntry) (λ v hv. entry-is n m ws i v resetEntry (entry i v hi hv))
+              ∙ tabulate-const m resetEntry) t;
+        }
+
+-- zero words, then the settings, then 1 in the last column: a hub with nobody connected
+pub fresh-put : (a b c : List ℕ) (s : Settings) (size : ℕ) → a ≡ replicate size 0 → Set a b s → length c ≡ length b
+    → Filled b c (10 + 8 * s .peers + 3 * (s .peers * s .vectors)) 1 (s .peers * s .vectors) → hubOf c ≡ freshHub s
+fresh-put a b c s size cleared put same filled =
+    let y = fits-sized b (put .fits) in
+    let n : word b 0 ≡ s .peers = sym (peers-at y) ∙ ap (λ (x : Settings). x .peers) (put .settings) in
+    let m : word b 1 ≡ s .vectors = sym (vectors-at y) ∙ ap (λ (x : Settings). x .vectors) (put .settings) in
+    let header : (k : ℕ) → k < 10 → word c k ≡ word b k = λ k h. filled .kept k (λ r l e. omega arith) in
+    let x : Sized c (word b 0) (word b 1) = sized-kept y same (header 0 (omega arith)) (header 1 (omega arith)) in
+    let z : Sized c (s .peers) (s .vectors) = rw (n, m) at x in
+    fresh-words s z (settings-at z ∙ settings-same b c header ∙ sym (settings-at y) ∙ put .settings)
+    (λ k l h. filled .kept k (λ r q e. omega arith) ∙ put .kept k l ∙ ap (λ (ws : List ℕ). word ws k) cleared ∙ zero-word size k)
+    (filled .there)
 
 -- equal hubs in words that fit, all below 2^32, are the same words
 pub hub-injective : (a b : List ℕ) → fits a ≡ true → fits b ≡ true → ((k : ℕ) → getD a k 0 < 2 ^ 32) → ((k : ℕ) → getD b k 0 < 2 ^ 32)

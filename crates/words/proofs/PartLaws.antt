@@ -9,7 +9,7 @@ use native.Mathlib.Omega.{arith}
 use lib.ListN.{length, set}
 use lib.Seq.{getD-set-same, getD-set-other}
 use Rattle.words.specs.Layout.{word}
-use Rattle.words.specs.Parts.{Copied}
+use Rattle.words.specs.Parts.{Copied, Filled}
 
 pub copied-none : (a : List ℕ) (place : ℕ → ℕ) (values : List ℕ) → Copied a a place values 0
 copied-none a place values = record { there = λ r h. absurd (not-suc-le-zero h); kept = λ k away. refl }
@@ -34,3 +34,16 @@ pub copied-at : {a b : List ℕ} {place other : ℕ → ℕ} {values : List ℕ}
     → Copied a b place values n → Copied a b other values n
 copied-at {a} {b} {place} {other} {values} {n} e copied =
     subst (λ (p : ℕ → ℕ). Copied a b p values n) (fun-ext e) copied
+
+-- the same for one value
+pub filled-none : (a : List ℕ) (at value : ℕ) → Filled a a at value 0
+filled-none a at value = record { there = λ r h. absurd (not-suc-le-zero h); kept = λ k away. refl }
+
+pub filled-one : (a b : List ℕ) (at value n : ℕ) → at + n < length b → Filled a b at value n → Filled a (set b (at + n) value) at value (n + 1)
+filled-one a b at value n inside old =
+    record {
+      there = λ r h. ⊎-elim (λ e. rw e (getD-set-same b (at + n) value 0 inside))
+          (λ l. getD-set-other b (at + n) (at + r) value 0 (λ e. omega arith) ∙ old .there r l)
+          (eq-or-lt-of-le (le-of-suc-le-suc (rw add-one at h)));
+      kept = λ k away. getD-set-other b (at + n) k value 0 (away n (omega arith)) ∙ old .kept k (λ r l. away r (omega arith));
+    }

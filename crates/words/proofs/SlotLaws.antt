@@ -1,4 +1,4 @@
--- What the loops over the vectors and the peers leave: one entry, or one slot, more at its reset value in each turn.
+-- What the loop over the vectors leaves: one entry more at its reset value in each turn.
 use Prim.Native.Nat.{ℕ, _+_, _<_}
 use mathlib.Core.List.{List, _++_}
 use mathlib.Core.Path.{_≡_, sym, ap, _∙_}
@@ -6,20 +6,14 @@ use lib.ListN.{set, drop, replicate}
 use lib.Seq.{getD-set-same, set-getD, set-set}
 use Rattle.common.proofs.ListLaws.{filled-more, filled-all}
 use Rattle.device.specs.declared.Entry.{Entry}
-use Rattle.device.specs.declared.Settings.{Settings}
 use Rattle.device.specs.Reset.{resetPeer, resetEntry}
-use Rattle.device.specs.SetUp.{freshHub}
 use Rattle.device.specs.World.{Hub, Slot, zeroSlot, resetSlot, slotAt, withSlot, withPeer, withEntry}
 use Rattle.words.specs.Layout.{hubOf, Known}
 use Rattle.words.proofs.LayoutLaws.{slots-length, entries-length}
 
--- a slot with its first v entries at reset, and a hub with its first i slots at reset
+-- a slot with its first v entries at reset
 abbrev pub cleared : Slot → ℕ → Slot
 cleared slot v = record { peer = slot .peer; entries = replicate v resetEntry ++ drop v (slot .entries) }
-
-abbrev pub emptied : Hub → ℕ → Hub
-emptied hub i =
-    record { settings = hub .settings; slots = replicate i (resetSlot (hub .settings .vectors) 0) ++ drop i (hub .slots) }
 
 pub slot-kept : (h : Hub) (i : ℕ) → h ≡ withSlot h i (slotAt h i)
 slot-kept h i = λ t. record { settings = h .settings; slots = sym (set-getD (h .slots) i zeroSlot) t }
@@ -59,19 +53,3 @@ module _ (ws : List ℕ) (now after : Hub) (i : ℕ) (below : Known ws i) where
       ∙ slot-twice ws i (withPeer (slotAt (hubOf ws) i) (resetPeer connected)) (λ s. cleared s m) below
       ∙ ap (λ (es : List Entry). withSlot (hubOf ws) i (record { peer = resetPeer connected; entries = es }))
       (filled-all m resetEntry (slotAt (hubOf ws) i .entries) (entries-length ws i below))
-
-  pub emptied-more : now ≡ emptied (hubOf ws) i → after ≡ withSlot now i (resetSlot (now .settings .vectors) 0) → after ≡ emptied (hubOf ws) (i + 1)
-  emptied-more was step =
-      let slot : Slot = resetSlot (hubOf ws .settings .vectors) 0 in
-      step
-      ∙ ap (λ (h : Hub). withSlot h i (resetSlot (h .settings .vectors) 0)) was
-      ∙ ap (λ (slots : List Slot). record { settings = hubOf ws .settings; slots = slots })
-      (filled-more i slot (hubOf ws .slots) (rw slots-length below))
-
-pub emptied-all : (ws : List ℕ) (after : Hub) (s : Settings) → hubOf ws .settings ≡ s → after ≡ emptied (hubOf ws) (s .peers) → after ≡ freshHub s
-unfolding freshHub
-emptied-all ws after s was step =
-    step
-    ∙ ap (λ (slots : List Slot). record { settings = hubOf ws .settings; slots = slots })
-    (filled-all (s .peers) (resetSlot (hubOf ws .settings .vectors) 0) (hubOf ws .slots) (slots-length ws ∙ ap (λ (x : Settings). x .peers) was))
-    ∙ ap (λ (x : Settings). record { settings = x; slots = replicate (s .peers) (resetSlot (x .vectors) 0) }) was

@@ -1,11 +1,13 @@
 -- What the functions inside this crate promise of a part of the words: several words, each at a place of its own.
-use Prim.Native.Nat.{ℕ, _+_, _*_, _/_, _%_, _^_, _<_}
+use Prim.Native.Nat.{ℕ, _+_, _*_, _/_, _%_, _^_, _≤_, _<_}
+use mathlib.Core.Bool.{true}
 use mathlib.Core.List.{List, [], _∷_}
 use mathlib.Core.Path.{_≡_}
 use Rattle.device.specs.declared.Entry.{Entry}
 use Rattle.device.specs.declared.Peer.{Peer}
 use Rattle.device.specs.declared.Settings.{Settings}
-use Rattle.words.specs.Layout.{word}
+use Rattle.words.specs.Layout
+use Rattle.words.specs.Layout.{word, hubOf}
 
 -- the ten words of the settings
 abbrev pub settingsWords : Settings → List ℕ
@@ -50,3 +52,14 @@ entryFrom ws at step =
 pub record Copied (before after : List ℕ) (place : ℕ → ℕ) (values : List ℕ) (n : ℕ) : Type 0 where
   pub there : (r : ℕ) → r < n → word after (place r) ≡ word values r
   pub kept : (k : ℕ) → ((r : ℕ) → r < n → k ≡ place r → ⊥) → word after k ≡ word before k
+
+-- the n words from a place on hold a value, and every other word is as it was
+pub record Filled (before after : List ℕ) (at value n : ℕ) : Type 0 where
+  pub there : (r : ℕ) → r < n → word after (at + r) ≡ value
+  pub kept : (k : ℕ) → ((r : ℕ) → r < n → k ≡ at + r → ⊥) → word after k ≡ word before k
+
+-- the words are a hub of these settings, and past the first ten they are as they were
+pub record Set (before after : List ℕ) (s : Settings) : Type 0 where
+  pub fits : Layout.fits after ≡ true
+  pub settings : hubOf after .settings ≡ s
+  pub kept : (k : ℕ) → 10 ≤ k → word after k ≡ word before k

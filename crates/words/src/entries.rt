@@ -47,6 +47,17 @@ pub fn entry_at(hub: &[u32], i: usize, v: usize) -> Entry
     }
 }
 
+// The same as `put_entry` with the hub's numbers of peers and vectors in hand, so that a loop reads them once.
+pub fn put_entry_in(hub: &mut [u32], n: usize, m: usize, i: usize, v: usize, e: Entry)
+    requires numbers { ⌜ (n ≡ hubOf (now hub) .settings .peers) × (m ≡ hubOf (now hub) .settings .vectors) ⌝ }
+    requires known { ⌜ Known (now hub) i ⌝ }
+    requires vector { ⌜ KnownVector (now hub) v ⌝ }
+    ensures { λ r. ⌜ hubOf (now (hub .exit)) ≡ withSlot (hubOf (now (hub .entry))) i (withEntry (slotAt (hubOf (now (hub .entry))) i) v e) ⌝ }
+{
+    let at = entry_start(n, m, i, v);
+    super::parts::put_words(hub, at, n * m, &[e.low, e.high, e.payload, e.control]);
+}
+
 pub fn put_entry(hub: &mut [u32], i: usize, v: usize, e: Entry)
     requires known { ⌜ Known (now hub) i ⌝ }
     requires vector { ⌜ KnownVector (now hub) v ⌝ }
@@ -54,6 +65,5 @@ pub fn put_entry(hub: &mut [u32], i: usize, v: usize, e: Entry)
 {
     let n = super::sizes::count(hub, 0);
     let m = super::sizes::count(hub, 1);
-    let at = entry_start(n, m, i, v);
-    super::parts::put_words(hub, at, n * m, &[e.low, e.high, e.payload, e.control]);
+    put_entry_in(hub, n, m, i, v, e);
 }

@@ -5,7 +5,7 @@ ghost use mathlib.Core.Path.{_≡_};
 ghost use Prim.Native.Nat.{_+_, _*_, _^_, _<_, _≤_};
 ghost use lib.ListN.{length, getD};
 ghost use Rattle.words.specs.Layout.{hubWords, hubOf, fits, settingsOf, Storable};
-ghost use Rattle.words.specs.Parts.{settingsWords};
+ghost use Rattle.words.specs.Parts.{settingsWords, Set};
 
 fn widened(x: u32) -> u64
     ensures { λ r. ⌜ r ≡ x ⌝ }
@@ -73,7 +73,7 @@ fn settings_words(s: Settings) -> [u32; 10]
 pub fn put_settings(hub: &mut [u32], s: Settings)
     requires size { ⌜ length (now hub) ≡ hubWords (s .peers) (s .vectors) ⌝ }
     requires small { ⌜ Storable s ⌝ }
-    ensures { λ r. ⌜ (fits (now (hub .exit)) ≡ true) × (hubOf (now (hub .exit)) .settings ≡ s) ⌝ }
+    ensures { λ r. ⌜ Set (now (hub .entry)) (now (hub .exit)) s ⌝ }
 {
     let values = settings_words(s);
     super::parts::put_words(hub, 0, 1, &values);

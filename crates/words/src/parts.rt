@@ -4,7 +4,7 @@ use device::Peer;
 ghost use mathlib.Core.Path.{_≡_};
 ghost use Prim.Native.Nat.{ℕ, _+_, _*_, _<_, _≤_};
 ghost use lib.ListN.{length};
-ghost use Rattle.words.specs.Parts.{peerFrom, entryFrom, Copied};
+ghost use Rattle.words.specs.Parts.{peerFrom, entryFrom, Copied, Filled};
 
 pub fn peer_from(hub: &[u32], at: usize) -> Peer
     requires { ⌜ at + 8 ≤ length (now hub) ⌝ }
@@ -43,6 +43,18 @@ pub fn put_words(hub: &mut [u32], at: usize, step: usize, values: &[u32])
     let mut k = 0;
     while k < values.len() {
         hub[at + k * step] = values[k];
+        k += 1;
+    }
+}
+
+// The same value in several words from a place on.
+pub fn fill(hub: &mut [u32], at: usize, size: usize, value: u32)
+    requires { ⌜ at + size ≤ length (now hub) ⌝ }
+    ensures { λ r. ⌜ Filled (now (hub .entry)) (now (hub .exit)) at value size ⌝ }
+{
+    let mut k = 0;
+    while k < size {
+        hub[at + k] = value;
         k += 1;
     }
 }

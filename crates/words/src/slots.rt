@@ -14,27 +14,26 @@ pub fn put_reset(hub: &mut [u32], i: usize, connected: u32)
     ensures { λ r. ⌜ hubOf (now (hub .exit)) ≡ withSlot (hubOf (now (hub .entry))) i (resetSlot (hubOf (now (hub .entry)) .settings .vectors) connected) ⌝ }
 {
     super::put_peer(hub, i, Peer::reset(connected));
-    let vectors = super::sizes::count(hub, 1);
+    let n = super::sizes::count(hub, 0);
+    let m = super::sizes::count(hub, 1);
     let mut v = 0;
-    while v < vectors {
-        super::put_entry(hub, i, v, Entry::reset());
+    while v < m {
+        super::entries::put_entry_in(hub, n, m, i, v, Entry::reset());
         v += 1;
     }
 }
 
-// A hub with these settings and nobody connected.
+// A hub with these settings and nobody connected: but for the settings every word is 0, and 1 in the column of controls.
 pub fn put_fresh(hub: &mut [u32], s: Settings)
     requires size { ⌜ length (now hub) ≡ hubWords (s .peers) (s .vectors) ⌝ }
     requires small { ⌜ Storable s ⌝ }
     ensures { λ r. ⌜ hubOf (now (hub .exit)) ≡ freshHub s ⌝ }
 {
+    put_zero(hub);
     super::put_settings(hub, s);
-    let peers = super::sizes::count(hub, 0);
-    let mut i = 0;
-    while i < peers {
-        put_reset(hub, i, 0);
-        i += 1;
-    }
+    let size = s.peers as usize * s.vectors as usize;
+    let start = 10 + 8 * s.peers as usize + 3 * size;
+    super::parts::fill(hub, start, size, Entry::CONTROL);
 }
 
 // All words zero, whatever their number.

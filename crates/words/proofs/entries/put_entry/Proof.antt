@@ -1,8 +1,8 @@
--- `words::entries::put_entry` meets its contract: four words inside the hub, a column apart, are stored.
+-- `words::entries::put_entry` meets its contract: the first two words are the numbers of peers and vectors.
+use mathlib.Core.Path.{sym, _∙_}
 use native.Mathlib.Omega.{arith}
 use borrow.Author.Needs.{needs}
-use Rattle.words.proofs.IndexLaws.{row-below, entry-below}
-use Rattle.words.proofs.LayoutLaws.{known-inside, vectors-at, entry-put}
+use Rattle.words.proofs.LayoutLaws.{known-inside, peers-at, vectors-at}
 use Rattle.words.proofs.entries.put_entry.Statement.{statement}
 use Rattle.words.proofs.entries.put_entry.Tie as tie
 
@@ -12,35 +12,18 @@ count-requires c κs = omega (arith, known-inside _ _ (c .before .before .pre .0
 count-requires-2 : tie.Need-count-requires-2
 count-requires-2 c κs = omega (arith, known-inside _ _ (c .before .before .before .before .pre .0))
 
-entry-start-requires : tie.Need-entry-start-requires
-entry-start-requires c κs =
-    let i = known-inside _ _ (c .before .before .before .before .before .pre .0) in
-    let v = rw (vectors-at (i .sized)) at (c .before .before .before .before .before .pre .1) in
-    rw (c .before .before .count .ensures, c .count2 .ensures) ((i .sized .few, i .sized .less), (omega (arith, i), omega (arith, v)))
-
-mul-put-words : tie.Need-mul-put-words
-mul-put-words c = rw (c .before .before .before .before .count .ensures, c .before .before .count2 .ensures) (omega (arith, known-inside _ _ (c .before .before .before .before .before .before .before .pre .0)))
-
-slice-aggregate-put-words : tie.Need-slice-aggregate-put-words
-slice-aggregate-put-words c = search needs
-
-put-words-requires : tie.Need-put-words-requires
-put-words-requires c κs =
-    let i = known-inside _ _ (c .before .before .before .before .before .before .before .before .pre .0) in
-    let v = rw (vectors-at (i .sized)) at (c .before .before .before .before .before .before .before .before .pre .1) in
-    rw (c .before .before .entry-start .ensures, c .before .before .before .before .before .count .ensures, c .before .before .before .count2 .ensures)
-    (omega (arith, row-below _ _ (i .below) v), λ r h. omega (arith, entry-below _ _ r _ _ h (i .below) v, i .sized .size))
+put-entry-in-requires : tie.Need-put-entry-in-requires
+put-entry-in-requires c κs =
+    let i = known-inside _ _ (c .before .before .before .before .before .before .pre .0) in
+    ((c .before .before .before .count .ensures ∙ sym (peers-at (i .sized)), c .before .count2 .ensures ∙ sym (vectors-at (i .sized))), (c .before .before .before .before .before .before .pre .0, c .before .before .before .before .before .before .pre .1))
 
 same-length : tie.Need-same-length
 same-length c = search needs
 
 returns : tie.Need-returns
-returns c =
-    let i = known-inside _ _ (c .before .before .before .before .before .before .before .before .before .before .before .pre .0) in
-    entry-put _ _ (i .sized) (c .before .before .put-words .kept .0) _ _ _ (i .below) (rw (vectors-at (i .sized)) at (c .before .before .before .before .before .before .before .before .before .before .before .pre .1))
-    (rw (c .before .before .before .before .before .entry-start .ensures, c .before .before .before .before .before .before .before .before .count .ensures, c .before .before .before .before .before .before .count2 .ensures) at (c .before .before .put-words .ensures))
+returns c = search needs
 
 pub put-entry-spec : {M : Type 1} → statement M
 put-entry-spec =
     tie.close
-    (tie.spec count-requires count-requires-2 entry-start-requires mul-put-words slice-aggregate-put-words put-words-requires same-length returns)
+    (tie.spec count-requires count-requires-2 put-entry-in-requires same-length returns)

@@ -7,23 +7,24 @@ use borrow.Author.Needs.{needs}
 use lib.ListN.{length}
 use Rattle.device.specs.World.{Hub, slotAt, withSlot}
 use Rattle.words.specs.Layout.{hubOf, Known}
-use Rattle.words.proofs.LayoutLaws.{known-inside, vectors-at}
+use Rattle.words.proofs.LayoutLaws.{known-inside, peers-at, vectors-at}
 use Rattle.words.proofs.SlotLaws.{cleared, slot-kept, cleared-more, cleared-all}
 use Rattle.words.proofs.slots.put_reset.Statement.{statement}
 use Rattle.words.proofs.slots.put_reset.Tie as tie
 
-record Inv (hub₀ : List ℕ) (i vectors : ℕ) (hub : List ℕ) (v : ℕ) : Type 0 where
+record Inv (hub₀ : List ℕ) (i n m : ℕ) (hub : List ℕ) (v : ℕ) : Type 0 where
   known : Known hub₀ i
-  count : vectors ≡ hubOf hub₀ .settings .vectors
-  bound : v ≤ vectors
+  peers : n ≡ hubOf hub₀ .settings .peers
+  vectors : m ≡ hubOf hub₀ .settings .vectors
+  bound : v ≤ m
   kept : length hub ≡ length hub₀
   reset : hubOf hub ≡ withSlot (hubOf hub₀) i (cleared (slotAt (hubOf hub₀) i) v)
 
 abbrev Inv-loop : tie.InvT-loop
-Inv-loop hub₀ i connected vectors v₀ hub v = Inv hub₀ i vectors hub v
+Inv-loop hub₀ i connected n m v₀ hub v = Inv hub₀ i n m hub v
 
 abbrev μ-loop : tie.MeasureT-loop
-μ-loop hub₀ i connected vectors v₀ hub v = vectors - v
+μ-loop hub₀ i connected n m v₀ hub v = m - v
 
 reset-requires : tie.Need-reset-requires Inv-loop μ-loop
 reset-requires c κs = search needs
@@ -35,12 +36,18 @@ count-requires : tie.Need-count-requires Inv-loop μ-loop
 count-requires c κs =
     omega (arith, known-inside (c .before .before .before .put-peer .last .0) (c .before .before .before .before .before .before .before .args .i) (rw (c .before .before .before .put-peer .ensures) (c .before .before .before .before .before .before .before .pre)))
 
+count-requires-2 : tie.Need-count-requires-2 Inv-loop μ-loop
+count-requires-2 c κs =
+    omega (arith, known-inside (c .before .before .before .before .before .put-peer .last .0) (c .before .before .before .before .before .before .before .before .before .args .i) (rw (c .before .before .before .before .before .put-peer .ensures) (c .before .before .before .before .before .before .before .before .before .pre)))
+
 loop-holds : tie.Need-loop-holds Inv-loop μ-loop
 loop-holds c =
-    let known : Known (c .before .before .before .before .put-peer .last .0) (c .before .before .before .before .before .before .before .before .args .i) = rw (c .before .before .before .before .put-peer .ensures) (c .before .before .before .before .before .before .before .before .pre) in
+    let known : Known (c .before .before .before .before .before .before .put-peer .last .0) (c .before .before .before .before .before .before .before .before .before .before .args .i) = rw (c .before .before .before .before .before .before .put-peer .ensures) (c .before .before .before .before .before .before .before .before .before .before .pre) in
+    let z = known-inside _ _ known .sized in
     record {
       known = known;
-      count = c .count .ensures ∙ sym (vectors-at (known-inside _ _ known .sized));
+      peers = c .before .before .count .ensures ∙ sym (peers-at z);
+      vectors = c .count2 .ensures ∙ sym (vectors-at z);
       bound = omega arith;
       kept = refl;
       reset = slot-kept _ _;
@@ -49,9 +56,10 @@ loop-holds c =
 reset-requires-2 : tie.Need-reset-requires-2 Inv-loop μ-loop
 reset-requires-2 c κs = search needs
 
-put-entry-requires : tie.Need-put-entry-requires Inv-loop μ-loop
-put-entry-requires c κs =
-    (rw (c .before .before .before .loop .inv .reset) (c .before .before .before .loop .inv .known), rw (c .before .before .before .loop .inv .reset) (rw (c .before .before .before .loop .inv .count) at (c .before .before .loop-test .taken)))
+put-entry-in-requires : tie.Need-put-entry-in-requires Inv-loop μ-loop
+put-entry-in-requires c κs =
+    let s = c .before .before .before .loop .inv .reset in
+    ((rw s (c .before .before .before .loop .inv .peers), rw s (c .before .before .before .loop .inv .vectors)), (rw s (c .before .before .before .loop .inv .known), rw s (rw (c .before .before .before .loop .inv .vectors) at (c .before .before .loop-test .taken))))
 
 add-v : tie.Need-add-v Inv-loop μ-loop
 add-v c = omega arith
@@ -63,24 +71,39 @@ loop-again : tie.Need-loop-again Inv-loop μ-loop
 loop-again c =
     record {
       known = c .before .before .before .before .before .before .loop .inv .known;
-      count = c .before .before .before .before .before .before .loop .inv .count;
+      peers = c .before .before .before .before .before .before .loop .inv .peers;
+      vectors = c .before .before .before .before .before .before .loop .inv .vectors;
       bound = omega arith;
-      kept = c .before .before .put-entry .kept .0 ∙ c .before .before .before .before .before .before .loop .inv .kept;
+      kept = c .before .before .put-entry-in .kept .0 ∙ c .before .before .before .before .before .before .loop .inv .kept;
       reset =
-          cleared-more _ _ _ _ (c .before .before .before .before .before .before .loop .inv .known) _ (rw (c .before .before .before .before .before .before .loop .inv .count) at (c .before .before .before .before .before .loop-test .taken)) (c .before .before .before .before .before .before .loop .inv .reset)
-          (rw (c .before .before .before .reset2 .ensures) at (c .before .before .put-entry .ensures));
+          cleared-more _ _ _ _ (c .before .before .before .before .before .before .loop .inv .known) _ (rw (c .before .before .before .before .before .before .loop .inv .vectors) at (c .before .before .before .before .before .loop-test .taken)) (c .before .before .before .before .before .before .loop .inv .reset)
+          (rw (c .before .before .before .reset2 .ensures) at (c .before .before .put-entry-in .ensures));
     }
 
 same-length : tie.Need-same-length Inv-loop μ-loop
-same-length c = c .before .loop .inv .kept ∙ c .before .before .before .before .before .before .put-peer .kept .0
+same-length c = c .before .loop .inv .kept ∙ c .before .before .before .before .before .before .before .before .put-peer .kept .0
 
 returns : tie.Need-returns Inv-loop μ-loop
 returns c =
-    let e : c .before .loop .v ≡ c .before .before .count .result = omega arith in
-    let last = e ∙ c .before .loop .inv .count ∙ ap (λ (h : Hub). h .settings .vectors) (c .before .before .before .before .before .before .put-peer .ensures) in
-    cleared-all _ _ _ _ (c .before .before .before .before .before .before .before .before .before .before .pre) _ (rw (c .before .before .before .before .before .before .before .reset .ensures) at (c .before .before .before .before .before .before .put-peer .ensures)) (rw last at (c .before .loop .inv .reset))
+    let e : c .before .loop .v ≡ c .before .before .count2 .result = omega arith in
+    let last = e ∙ c .before .loop .inv .vectors ∙ ap (λ (h : Hub). h .settings .vectors) (c .before .before .before .before .before .before .before .before .put-peer .ensures) in
+    cleared-all _ _ _ _ (c .before .before .before .before .before .before .before .before .before .before .before .before .pre) _ (rw (c .before .before .before .before .before .before .before .before .before .reset .ensures) at (c .before .before .before .before .before .before .before .before .put-peer .ensures)) (rw last at (c .before .loop .inv .reset))
 
 pub put-reset-spec : {M : Type 1} → statement M
 put-reset-spec =
     tie.close
-    (tie.spec Inv-loop μ-loop reset-requires put-peer-requires count-requires loop-holds reset-requires-2 put-entry-requires add-v loop-less loop-again same-length returns)
+    (tie.spec
+    Inv-loop
+    μ-loop
+    reset-requires
+    put-peer-requires
+    count-requires
+    count-requires-2
+    loop-holds
+    reset-requires-2
+    put-entry-in-requires
+    add-v
+    loop-less
+    loop-again
+    same-length
+    returns)
