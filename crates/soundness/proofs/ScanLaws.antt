@@ -1,4 +1,4 @@
--- Laws of specs/Scanned.antt: one peer more, with or without the end of a run, and the whole hub after the last.
+-- Laws of specs/Scanned.antt: one peer more, with or without the end of a run, and the whole hub after the last. First the entries.
 use Prim.Native.Nat.{ℕ, suc, _+_, _-_, _≤_, _<_}
 use mathlib.Core.Bool.{Bool, true, false, cond, not, _&&_, _||_}
 use mathlib.Core.List.{List}
@@ -6,7 +6,7 @@ use mathlib.Core.Path.{_≡_, refl, sym, ap, _∙_}
 use native.Mathlib.Numerals.{add-one}
 use native.Mathlib.Omega.{arith}
 use lib.Dec.{eqb}
-use Rattle.common.proofs.TestLaws.{and-true, and-assoc, by-equal, below-suc, below-add, below-ext, below-both}
+use Rattle.common.proofs.TestLaws.{by-equal, below-suc, below-add, below-ext, below-both}
 use Rattle.common.specs.Tests.{below}
 use Rattle.device.specs.declared.Entry.{Entry}
 use Rattle.device.specs.declared.Settings.{Settings}
@@ -14,8 +14,9 @@ use Rattle.device.specs.Sound.{entryFixed, entryReset, peerSound, entrySound, s
 use Rattle.device.specs.World.{Hub, slotAt, entryAt}
 use Rattle.words.specs.Layout.{hubOf, Known}
 use Rattle.words.specs.Runs.{runOf}
+use Rattle.soundness.specs.declared.whole.Peers.{Peers}
 use Rattle.soundness.specs.declared.whole.Scan.{Scan}
-use Rattle.soundness.specs.Scanned.{Scanned, Uniform, entriesSound, entriesFrom}
+use Rattle.soundness.specs.Scanned.{joined, Seen, Scanned, Uniform, entriesSound, entriesFrom}
 
 -- the test of a run's entries is each entry's own, where its peers are alike
 pub uniform-run : (ws : List ℕ) (from to : ℕ) (used : Bool) (t : Entry → Bool) → Uniform ws from to used
@@ -36,12 +37,6 @@ unchanged true false e = e
 unchanged false true e = sym e
 unchanged false false e = refl
 
-swap-last : (a b c : Bool) → ((a && b) && c) ≡ ((a && c) && b)
-swap-last true true c = sym (and-true c)
-swap-last true false true = refl
-swap-last true false false = refl
-swap-last false b c = refl
-
 -- the tests of a run complete those of the peers below it
 run-tested : (ws : List ℕ) (from i : ℕ) → from ≤ i
     → (below from (entriesSound (hubOf ws)) && entriesFrom (hubOf ws) from i) ≡ below i (entriesSound (hubOf ws))
@@ -50,19 +45,15 @@ run-tested ws from i h =
     let e : from + (i - from) ≡ i = omega arith in
     sym (below-add from (i - from) (entriesSound (hubOf ws))) ∙ ap (λ (n : ℕ). below n (entriesSound (hubOf ws))) e
 
-module _ (ws : List ℕ) (s : Settings) where
-  abbrev peersSound : ℕ → Bool
-  peersSound i = below i (λ k. peerSound s (slotAt (hubOf ws) k .peer))
-
-  pub scan-first : (used : Bool) → Scanned ws s 0 (record { ok = true; from = 0; used = used })
+module _ (ws : List ℕ) where
+  pub scan-first : (used : Bool) → Scanned ws 0 (record { ok = true; from = 0; used = used })
   unfolding below
   scan-first used = record { run = record { order = omega arith; known = omega arith; alike = λ k l h. absurd (omega arith) }; tested = refl }
 
-  module _ (i : ℕ) (x : Scan) (known : Known ws i) (p : Scanned ws s i x) where
+  module _ (i : ℕ) (x : Scan) (known : Known ws i) (p : Scanned ws i x) where
     -- the run goes on
-    pub scan-same : (ok used : Bool) → ok ≡ (x .ok && peerSound s (slotAt (hubOf ws) i .peer)) → eqb (slotAt (hubOf ws) i .peer .connected) 1 ≡ used
-        → used ≡ x .used → Scanned ws s (i + 1) (record { ok = ok; from = x .from; used = used })
-    scan-same ok used e same still =
+    pub scan-same : (used : Bool) → joined ws i ≡ used → used ≡ x .used → Scanned ws (i + 1) (record { ok = x .ok; from = x .from; used = used })
+    scan-same used same still =
         record {
           run =
               record {
@@ -70,16 +61,12 @@ module _ (ws : List ℕ) (s : Settings) where
                 known = omega (arith, known);
                 alike = λ k l h. by-equal k i (λ (q : k ≡ i). rw q same) (λ d. p .run .alike k l (omega arith) ∙ sym still);
               };
-          tested =
-              e
-              ∙ ap (λ (b : Bool). b && peerSound s (slotAt (hubOf ws) i .peer)) (p .tested)
-              ∙ swap-last (peersSound i) (below (x .from) (entriesSound (hubOf ws))) (peerSound s (slotAt (hubOf ws) i .peer))
-              ∙ rw (add-one, below-suc);
+          tested = p .tested;
         }
 
     -- the run ends here: its entries are tested too, and another begins
-    pub scan-changed : (ok used : Bool) → ok ≡ ((x .ok && peerSound s (slotAt (hubOf ws) i .peer)) && entriesFrom (hubOf ws) (x .from) i)
-        → eqb (slotAt (hubOf ws) i .peer .connected) 1 ≡ used → Scanned ws s (i + 1) (record { ok = ok; from = i; used = used })
+    pub scan-changed : (ok used : Bool) → ok ≡ (x .ok && entriesFrom (hubOf ws) (x .from) i) → joined ws i ≡ used
+        → Scanned ws (i + 1) (record { ok = ok; from = i; used = used })
     scan-changed ok used e same =
         record {
           run =
@@ -88,29 +75,55 @@ module _ (ws : List ℕ) (s : Settings) where
                 known = omega (arith, known);
                 alike = λ k l h. let q : k ≡ i = omega arith in rw q same;
               };
-          tested = e ∙ ap (λ (b : Bool). (b && peerSound s (slotAt (hubOf ws) i .peer)) && entriesFrom (hubOf ws) (x .from) i) (p .tested) ∙ whole;
+          tested = e ∙ ap (λ (b : Bool). b && entriesFrom (hubOf ws) (x .from) i) (p .tested) ∙ run-tested ws (x .from) i (p .run .order);
         }
-      where
-        p1 : Bool
-        p1 = peerSound s (slotAt (hubOf ws) i .peer)
 
-        regroup : (a b c d : Bool) → (((a && b) && c) && d) ≡ ((a && c) && (b && d))
-        regroup a b c d = ap (λ (y : Bool). y && d) (swap-last a b c) ∙ and-assoc (a && c) b d
+  -- after the last run
+  pub scan-last : (n : ℕ) (x : Scan) → Scanned ws n x → (x .ok && entriesFrom (hubOf ws) (x .from) n) ≡ below n (entriesSound (hubOf ws))
+  scan-last n x p = ap (λ (b : Bool). b && entriesFrom (hubOf ws) (x .from) n) (p .tested) ∙ run-tested ws (x .from) n (p .run .order)
 
-        whole : (((peersSound i && below (x .from) (entriesSound (hubOf ws))) && p1) && entriesFrom (hubOf ws) (x .from) i)
-            ≡ (peersSound (i + 1) && below i (entriesSound (hubOf ws)))
-        whole =
-            regroup (peersSound i) (below (x .from) (entriesSound (hubOf ws))) p1 (entriesFrom (hubOf ws) (x .from) i)
-            ∙ ap (λ (y : Bool). (peersSound i && p1) && y) (run-tested ws (x .from) i (p .run .order))
-            ∙ rw (add-one, below-suc)
+  -- one run is all
+  pub one-run : (n : ℕ) → entriesFrom (hubOf ws) 0 n ≡ below n (entriesSound (hubOf ws))
+  unfolding below
+  one-run n = run-tested ws 0 n (omega arith)
 
-  -- after the last peer, and the last run
-  pub scan-last : (x : Scan) → s ≡ hubOf ws .settings → Scanned ws s (s .peers) x
-      → (x .ok && entriesFrom (hubOf ws) (x .from) (s .peers)) ≡ below (s .peers) (λ i. slotSound s (slotAt (hubOf ws) i))
+-- The registers.
+
+module _ (ws : List ℕ) (s : Settings) where
+  pub seen-first : Seen ws s 0 (record { ok = true; connected = 0 })
+  unfolding below
+  seen-first = record { few = omega arith; all = λ e k h. absurd (omega arith); none = λ e k h. absurd (omega arith); tested = refl }
+
+  module _ (i : ℕ) (x : Peers) (p : Seen ws s i x) where
+    -- one more that is tested
+    more-tested : (t : Bool) → t ≡ peerSound s (slotAt (hubOf ws) i .peer) → (x .ok && t) ≡ below (i + 1) (λ k. peerSound s (slotAt (hubOf ws) k .peer))
+    more-tested t e = rw (add-one, below-suc, e, p .tested)
+
+    pub seen-joined : (t : Bool) → joined ws i ≡ true → t ≡ peerSound s (slotAt (hubOf ws) i .peer)
+        → Seen ws s (i + 1) (record { ok = x .ok && t; connected = x .connected + 1 })
+    seen-joined t here e =
+        record {
+          few = omega (arith, p .few);
+          all = λ q k h. by-equal k i (λ (r : k ≡ i). rw r here) (λ d. p .all (omega arith) k (omega arith));
+          none = λ q k h. absurd (omega arith);
+          tested = more-tested t e;
+        }
+
+    pub seen-absent : (t : Bool) → joined ws i ≡ false → t ≡ peerSound s (slotAt (hubOf ws) i .peer)
+        → Seen ws s (i + 1) (record { ok = x .ok && t; connected = x .connected })
+    seen-absent t here e =
+        record {
+          few = omega (arith, p .few);
+          all = λ q k h. absurd (omega (arith, p .few));
+          none = λ q k h. by-equal k i (λ (r : k ≡ i). rw r here) (λ d. p .none q k (omega arith));
+          tested = more-tested t e;
+        }
+
+  -- registers and entries of every peer
+  pub all-sound : s ≡ hubOf ws .settings
+      → (below (s .peers) (λ k. peerSound s (slotAt (hubOf ws) k .peer)) && below (s .peers) (entriesSound (hubOf ws)))
+      ≡ below (s .peers) (λ i. slotSound s (slotAt (hubOf ws) i))
   unfolding slotSound
-  scan-last x e p =
-      ap (λ (b : Bool). b && entriesFrom (hubOf ws) (x .from) (s .peers)) (p .tested)
-      ∙ and-assoc (peersSound (s .peers)) (below (x .from) (entriesSound (hubOf ws))) (entriesFrom (hubOf ws) (x .from) (s .peers))
-      ∙ ap (λ (b : Bool). peersSound (s .peers) && b) (run-tested ws (x .from) (s .peers) (p .run .order))
-      ∙ sym (below-both (s .peers) _ (entriesSound (hubOf ws)))
+  all-sound e =
+      sym (below-both (s .peers) _ (entriesSound (hubOf ws)))
       ∙ ap (λ (r : Settings). below (s .peers) (λ k. peerSound s (slotAt (hubOf ws) k .peer) && below (r .vectors) (λ v. entrySound (slotAt (hubOf ws) k .peer) (entryAt (slotAt (hubOf ws) k) v)))) (sym e)

@@ -1,6 +1,6 @@
 -- How far a pass over the peers has come, and what it has tested.
 use Prim.Native.Nat.{ℕ, _+_, _-_, _≤_, _<_}
-use mathlib.Core.Bool.{Bool, _&&_}
+use mathlib.Core.Bool.{Bool, true, false}
 use mathlib.Core.List.{List}
 use mathlib.Core.Path.{_≡_}
 use lib.Dec.{eqb}
@@ -9,7 +9,12 @@ use Rattle.device.specs.declared.Settings.{Settings}
 use Rattle.device.specs.Sound.{peerSound, entrySound}
 use Rattle.device.specs.World.{Hub, slotAt, entryAt}
 use Rattle.words.specs.Layout.{hubOf}
+use Rattle.soundness.specs.declared.whole.Peers.{Peers}
 use Rattle.soundness.specs.declared.whole.Scan.{Scan}
+
+-- whether a peer is connected
+abbrev pub joined : List ℕ → ℕ → Bool
+joined ws k = eqb (slotAt (hubOf ws) k .peer .connected) 1
 
 -- the entries of one peer, and of the peers from one id up to another
 abbrev pub entriesSound : Hub → ℕ → Bool
@@ -18,13 +23,20 @@ entriesSound hub i = below (hub .settings .vectors) (λ v. entrySound (slotAt hu
 unfoldable pub entriesFrom : Hub → (from to : ℕ) → Bool
 entriesFrom hub from to = below (to - from) (λ k. entriesSound hub (from + k))
 
+-- the registers of the peers below i are tested, and it is known whether all of them, or none, are connected
+pub record Seen (ws : List ℕ) (s : Settings) (i : ℕ) (x : Peers) : Type 0 where
+  pub few : x .connected ≤ i
+  pub all : x .connected ≡ i → (k : ℕ) → k < i → joined ws k ≡ true
+  pub none : x .connected ≡ 0 → (k : ℕ) → k < i → joined ws k ≡ false
+  pub tested : x .ok ≡ below i (λ k. peerSound s (slotAt (hubOf ws) k .peer))
+
 -- ids of the hub whose peers are all connected, or all not
 pub record Uniform (ws : List ℕ) (from to : ℕ) (used : Bool) : Type 0 where
   pub order : from ≤ to
   pub known : to ≤ hubOf ws .settings .peers
-  pub alike : (k : ℕ) → from ≤ k → k < to → eqb (slotAt (hubOf ws) k .peer .connected) 1 ≡ used
+  pub alike : (k : ℕ) → from ≤ k → k < to → joined ws k ≡ used
 
--- the registers of the peers below i are tested, and the entries of those below the last run
-pub record Scanned (ws : List ℕ) (s : Settings) (i : ℕ) (x : Scan) : Type 0 where
+-- the entries of the peers below i are tested, but for the last run
+pub record Scanned (ws : List ℕ) (i : ℕ) (x : Scan) : Type 0 where
   pub run : Uniform ws (x .from) i (x .used)
-  pub tested : x .ok ≡ (below i (λ k. peerSound s (slotAt (hubOf ws) k .peer)) && below (x .from) (entriesSound (hubOf ws)))
+  pub tested : x .ok ≡ below (x .from) (entriesSound (hubOf ws))

@@ -7,21 +7,16 @@ use Rattle.soundness.proofs.whole.scan_peer.Tie as tie
 peer-requires : tie.Need-peer-requires
 peer-requires c κs = search needs
 
-peer-sound-requires : tie.Need-peer-sound-requires
-peer-sound-requires c κs = search needs
-
 run-sound-requires : tie.Need-run-sound-requires
-run-sound-requires c κs = c .before .before .before .before .before .before .before .before .pre .1 .run
+run-sound-requires c κs = c .before .before .before .before .before .before .pre .1 .run
 
 returns : tie.Need-returns
-returns c =
-    scan-changed _ _ _ _ (c .before .before .before .before .before .before .before .before .before .pre .0) (c .before .before .before .before .before .before .before .before .before .pre .1) _ _ (rw (c .run-sound .ensures, c .before .before .before .before .before .peer-sound .ensures, c .before .before .before .before .before .before .before .peer .ensures)) (rw (c .before .before .before .before .before .before .before .peer .ensures))
+returns c = scan-changed _ _ _ (c .before .before .before .before .before .before .before .before .pre .0) (c .before .before .before .before .before .before .before .before .pre .1) _ _ (rw (c .before .run-sound .ensures)) (rw (c .before .before .before .before .before .before .peer .ensures))
 
 returns-2 : tie.Need-returns-2
-returns-2 c =
-    scan-same _ _ _ _ (c .before .before .before .before .before .before .before .before .pre .0) (c .before .before .before .before .before .before .before .before .pre .1) _ _ (rw (c .before .before .before .before .peer-sound .ensures, c .before .before .before .before .before .before .peer .ensures)) (rw (c .before .before .before .before .before .before .peer .ensures)) (unchanged _ _ (c .if1 .left))
+returns-2 c = scan-same _ _ _ (c .before .before .before .before .before .before .pre .0) (c .before .before .before .before .before .before .pre .1) _ (rw (c .before .before .before .before .peer .ensures)) (unchanged _ _ (c .if1 .left))
 
 pub scan-peer-spec : {M : Type 1} → statement M
 scan-peer-spec =
     tie.close
-    (tie.spec peer-requires peer-sound-requires run-sound-requires returns returns-2)
+    (tie.spec peer-requires run-sound-requires returns returns-2)

@@ -1,54 +1,20 @@
--- `soundness::whole::slots_sound` meets its contract. The loop's invariant: the peers passed have been scanned.
-use Prim.Native.Nat.{_-_, _≤_}
-use mathlib.Core.Path.{_≡_, ap, _∙_}
-use native.Mathlib.Omega.{arith}
-use Rattle.device.specs.declared.Settings.{Settings}
-use Rattle.soundness.specs.Scanned.{Scanned}
-use Rattle.soundness.proofs.ScanLaws.{scan-first, scan-last}
+-- `soundness::whole::slots_sound` meets its contract: registers and entries are a slot's two parts.
+use mathlib.Core.Path.{_∙_}
+use borrow.Author.Needs.{needs}
+use Rattle.soundness.proofs.ScanLaws.{all-sound}
 use Rattle.soundness.proofs.whole.slots_sound.Statement.{statement}
 use Rattle.soundness.proofs.whole.slots_sound.Tie as tie
 
-abbrev Inv-loop : tie.InvT-loop
-Inv-loop hub s peers scan₀ i₀ scan i = (i ≤ peers) × Scanned hub s i scan
+see-peers-requires : tie.Need-see-peers-requires
+see-peers-requires c κs = search needs
 
-abbrev μ-loop : tie.MeasureT-loop
-μ-loop hub s peers scan₀ i₀ scan i = peers - i
+entries-sound-requires : tie.Need-entries-sound-requires
+entries-sound-requires c κs = (c .before .before .pre, c .see-peers .ensures)
 
-loop-holds : tie.Need-loop-holds Inv-loop μ-loop
-loop-holds c = (omega arith, scan-first _ _ _)
-
-scan-peer-requires : tie.Need-scan-peer-requires Inv-loop μ-loop
-scan-peer-requires c κs = (rw (ap (λ (s : Settings). s .peers) (c .before .before .before .pre)) at (c .loop-test .taken), c .before .loop .inv .1)
-
-add-i : tie.Need-add-i Inv-loop μ-loop
-add-i c = omega arith
-
-loop-less : tie.Need-loop-less Inv-loop μ-loop
-loop-less c = omega arith
-
-loop-again : tie.Need-loop-again Inv-loop μ-loop
-loop-again c = (omega arith, c .scan-peer .ensures)
-
-run-sound-requires : tie.Need-run-sound-requires Inv-loop μ-loop
-run-sound-requires c κs =
-    let e : c .before .loop .i ≡ c .before .before .before .args .s .peers = omega arith in
-    (rw e at (c .before .loop .inv .1)) .run
-
-returns : tie.Need-returns Inv-loop μ-loop
-returns c =
-    let e : c .before .before .before .loop .i ≡ c .before .before .before .before .before .args .s .peers = omega arith in
-    rw (c .before .run-sound .ensures) (scan-last _ _ _ (c .before .before .before .before .before .pre) (rw e at (c .before .before .before .loop .inv .1)))
+returns : tie.Need-returns
+returns c = rw (c .before .before .see-peers .ensures .tested, c .before .entries-sound .ensures) (all-sound _ _ (c .before .before .before .before .pre))
 
 pub slots-sound-spec : {M : Type 1} → statement M
 slots-sound-spec =
     tie.close
-    (tie.spec
-    Inv-loop
-    μ-loop
-    loop-holds
-    scan-peer-requires
-    add-i
-    loop-less
-    loop-again
-    run-sound-requires
-    returns)
+    (tie.spec see-peers-requires entries-sound-requires returns)
