@@ -6,8 +6,8 @@ use model::subject::Answer;
 
 use crate::device::{Device, Lending, Library};
 
-/// Calls of a round, each on a hub of its own. Few, so that all hubs stay in a near cache; on one hub alone, in the nearest, a
-/// call of the library took as long.
+/// Calls of a round, each on a hub of its own. Few, so that all hubs stay in a near cache; [`million`](crate::million) makes its
+/// calls on one alone, which stays in the nearest.
 pub const ROUND: usize = 16;
 /// Bytes of a shared load or store.
 pub const SHARED_BYTES: usize = 64;

@@ -1,6 +1,8 @@
 //! What the yardsticks share: the rules over plain numbers.
 
-use ivshmem::{CONFIGURATION_BYTES, MAX_PEERS, MAX_VECTORS, MSIX_BYTES, PeerId, REGISTER_BYTES, Section};
+use ivshmem::{
+    CONFIGURATION_BYTES, Delivery, MAX_PEERS, MAX_VECTORS, MSIX_BYTES, PeerId, REGISTER_BYTES, Section, Vector,
+};
 pub use model::hub::{Entry, Numbers};
 
 pub const MEMORY_SPACE: u32 = 1 << 1;
@@ -171,6 +173,28 @@ pub fn configuration_write(r: &mut Registers, offset: u64, width: u64, value: u3
         0x40 => replace_high(&mut r.privileged, 1),
         0x60 => replace_high(&mut r.message, MESSAGE_BITS),
         _ => {}
+    }
+}
+
+/// Whether a ring passes the switches of a peer, and of the entry whose control word this is.
+#[inline(always)]
+#[must_use]
+pub fn passes(r: &Registers, control: u32) -> bool {
+    r.connected == 1
+        && r.command & BUS_MASTER != 0
+        && r.message & (MSIX_ENABLE | FUNCTION_MASK) == MSIX_ENABLE
+        && r.interrupt & 1 == 1
+        && control & 1 == 0
+}
+
+#[inline(always)]
+#[must_use]
+pub fn delivery(target: usize, vector: usize, entry: &Entry) -> Delivery {
+    Delivery {
+        address: u64::from(entry.high) << 32 | u64::from(entry.low),
+        payload: entry.data,
+        target: PeerId(target as u16),
+        vector: Vector(vector as u16),
     }
 }
 

@@ -3,10 +3,10 @@
 
 use std::borrow::BorrowMut;
 
-use ivshmem::hub_words;
+use ivshmem::{Delivery, hub_words};
 use model::call::Call;
 
-use crate::rules::{Entry, Numbers, Registers, words_asked};
+use crate::rules::{Entry, Numbers, Registers, delivery, passes, words_asked};
 
 /// A hub's settings, registers and MSI-X entries.
 pub trait State {
@@ -30,6 +30,9 @@ pub trait State {
 
     /// All registers and entries of a peer at their reset values.
     fn reset(&mut self, numbers: &Numbers, id: usize, connected: u32);
+
+    /// Vector 0 is rung at every peer but the sender, and the table filled; answers the count of deliveries.
+    fn ring_others(&mut self, numbers: &Numbers, sender: usize, table: &mut [Delivery]) -> usize;
 }
 
 /// A form in which a hub is lent to a call.
@@ -136,6 +139,20 @@ impl State for Plain {
         let peer = &mut self.peers[id];
         peer.registers = Registers { connected, ..Registers::default() };
         peer.entries.fill(Entry::RESET);
+    }
+
+    #[inline(always)]
+    fn ring_others(&mut self, _: &Numbers, sender: usize, table: &mut [Delivery]) -> usize {
+        let mut count = 0;
+        for (target, peer) in self.peers.iter_mut().enumerate() {
+            let entry = &peer.entries[0];
+            if target != sender && passes(&peer.registers, entry.control) {
+                peer.registers.interrupt &= !peer.registers.privileged;
+                table[count] = delivery(target, 0, entry);
+                count += 1;
+            }
+        }
+        count
     }
 }
 
@@ -259,23 +276,14 @@ impl State for [u32] {
 
     #[inline(always)]
     fn registers(&self, id: usize) -> Registers {
-        let row = &self[SETTING_WORDS + PEER_WORDS * id..][..PEER_WORDS];
-        Registers {
-            connected: row[0],
-            command: row[1],
-            bar0: row[2],
-            bar1: row[3],
-            privileged: row[4],
-            message: row[5],
-            interrupt: row[6],
-            state: row[7],
-        }
+        let rows = self[SETTING_WORDS..].as_chunks().0;
+        registers_of(&rows[id])
     }
 
     #[inline(always)]
     fn put_registers(&mut self, id: usize, r: &Registers) {
-        let row = [r.connected, r.command, r.bar0, r.bar1, r.privileged, r.message, r.interrupt, r.state];
-        self[SETTING_WORDS + PEER_WORDS * id..][..PEER_WORDS].copy_from_slice(&row);
+        let rows = self[SETTING_WORDS..].as_chunks_mut().0;
+        rows[id] = [r.connected, r.command, r.bar0, r.bar1, r.privileged, r.message, r.interrupt, r.state];
     }
 
     #[inline(always)]
@@ -317,6 +325,38 @@ impl State for [u32] {
             self[start..][..numbers.vectors as usize].fill(reset);
         }
     }
+
+    #[inline(always)]
+    fn ring_others(&mut self, numbers: &Numbers, sender: usize, table: &mut [Delivery]) -> usize {
+        let (vectors, column) = (numbers.vectors as usize, (numbers.peers * numbers.vectors) as usize);
+        let (rows, low) = self[SETTING_WORDS..].split_at_mut(PEER_WORDS * numbers.peers as usize);
+        let (low, high) = low.split_at(column);
+        let (high, data) = high.split_at(column);
+        let (data, control) = data.split_at(column);
+        // All have one length, so that a place has to be tested once.
+        let control = &control[..column];
+        let mut count = 0;
+        for (target, row) in rows.as_chunks_mut().0.iter_mut().enumerate() {
+            let at = target * vectors;
+            if target != sender && passes(&registers_of(row), control[at]) {
+                row[INTERRUPT] &= !row[PRIVILEGED];
+                let entry = Entry { low: low[at], high: high[at], data: data[at], control: 0 };
+                table[count] = delivery(target, 0, &entry);
+                count += 1;
+            }
+        }
+        count
+    }
+}
+
+/// The places of Privileged Control and Interrupt Control in a row.
+const PRIVILEGED: usize = 4;
+const INTERRUPT: usize = 6;
+
+#[inline(always)]
+fn registers_of(row: &[u32; PEER_WORDS]) -> Registers {
+    let [connected, command, bar0, bar1, privileged, message, interrupt, state] = *row;
+    Registers { connected, command, bar0, bar1, privileged, message, interrupt, state }
 }
 
 impl Form for [u32] {

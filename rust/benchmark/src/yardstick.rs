@@ -3,13 +3,13 @@
 use std::marker::PhantomData;
 
 use ivshmem::raw::{Counted, Reply, SectionReply};
-use ivshmem::{Delivery, PeerId, Section, Settings, Vector, register};
+use ivshmem::{Delivery, Section, Settings, register};
 
 use model::call::Call;
 use model::subject::Answer;
 
 use crate::device::{Device, Lending, perform_by};
-use crate::rules::{self, BUS_MASTER, FUNCTION_MASK, MEMORY_SPACE, MSIX_ENABLE, Numbers, Registers};
+use crate::rules::{self, MEMORY_SPACE, Numbers, Registers};
 use crate::soundness::{Accumulating, EarlyExit, Soundness};
 use crate::state::{Form, Plain, State};
 
@@ -55,7 +55,8 @@ impl Lent {
 }
 
 impl<F: State + ?Sized, T: Soundness<F>> Yardstick<F, T> {
-    /// Checks 10, 2, 11, 3 and 4.
+    /// Checks 10, 2, 11, 3 and 4. Inlined, since its answer is large.
+    #[inline(always)]
     fn admit(hub: &F, lent: &Lent, id: u64) -> Result<Caller, u32> {
         if !T::sound(hub) {
             return Err(10);
@@ -119,8 +120,7 @@ impl<F: State + ?Sized, T: Soundness<F>> Yardstick<F, T> {
                 Ok(0)
             }
             register::DOORBELL => {
-                let (target, vector) = ((value >> 16) as usize, (value & 0xffff) as usize);
-                let Some(delivery) = ring(hub, &caller.numbers, target, vector) else { return Ok(0) };
+                let Some(delivery) = ring(hub, &caller.numbers, value) else { return Ok(0) };
                 table[0] = delivery;
                 Ok(1)
             }
@@ -203,43 +203,25 @@ fn announce(
     value: u32,
 ) -> usize {
     region[4 * caller.id..][..4].copy_from_slice(&value.to_le_bytes());
-    let mut count = 0;
-    for target in 0..caller.numbers.peers as usize {
-        if target == caller.id {
-            continue;
-        }
-        if let Some(delivery) = ring(hub, &caller.numbers, target, 0) {
-            table[count] = delivery;
-            count += 1;
-        }
-    }
-    count
+    hub.ring_others(&caller.numbers, caller.id, table)
 }
 
-#[inline(always)]
-fn ring(hub: &mut (impl State + ?Sized), numbers: &Numbers, target: usize, vector: usize) -> Option<Delivery> {
+/// What a doorbell's value rings, if it is delivered.
+fn ring(hub: &mut (impl State + ?Sized), numbers: &Numbers, value: u32) -> Option<Delivery> {
+    let (target, vector) = ((value >> 16) as usize, (value & 0xffff) as usize);
     if target as u64 >= numbers.peers || vector as u64 >= numbers.vectors {
         return None;
     }
     let mut registers = hub.registers(target);
-    let open = registers.connected == 1
-        && registers.command & BUS_MASTER != 0
-        && registers.message & (MSIX_ENABLE | FUNCTION_MASK) == MSIX_ENABLE
-        && registers.interrupt & 1 == 1;
-    if !open {
-        return None;
-    }
     let entry = hub.entry(numbers, target, vector);
-    if entry.control & 1 == 1 {
+    if !rules::passes(&registers, entry.control) {
         return None;
     }
     if registers.privileged & 1 == 1 {
         registers.interrupt = 0;
         hub.put_registers(target, &registers);
     }
-    let address = u64::from(entry.high) << 32 | u64::from(entry.low);
-    let (target, vector) = (PeerId(target as u16), Vector(vector as u16));
-    Some(Delivery { address, payload: entry.data, target, vector })
+    Some(rules::delivery(target, vector, &entry))
 }
 
 fn begin(hub: &mut (impl State + ?Sized), region: &mut [u8], settings: &Settings) -> Result<u32, u32> {
