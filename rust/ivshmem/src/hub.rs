@@ -5,9 +5,25 @@ use core::fmt;
 use crate::raw::{self, Counted, Delivery, Reply};
 use crate::{PeerId, Placement, Refusal, Section, Settings};
 
-/// A hub: words that its user owns and lends to it, as many as the set-up asks for, and nothing else. They may stand in an array
-/// of [`hub_words`](crate::hub_words) of its peers and vectors, or in a `Vec` of [`Settings::hub_words`]. A host that keeps
-/// them beside other things makes a `Hub` over them for each call, with [`from_words`](Hub::from_words), at no cost.
+/// A hub: words that its user owns and lends to it, as many as the set-up asks for, and nothing else.
+///
+/// ```
+/// # use ivshmem::{Hub, PeerId, Refusal, Settings, hub_words};
+/// # fn main() -> Result<(), Refusal> {
+/// # let settings = Settings { peers: 4, vectors: 4, state_table: 4096, ..Settings::default() };
+/// # let mut region = [0; 4096];
+/// // The words stand in an array, where the numbers are known beforehand,
+/// let mut words = [0; hub_words(4, 4)];
+/// let mut hub = Hub::set_up(&mut words, &settings, &mut region)?;
+/// hub.connect(PeerId(0))?;
+///
+/// // or in a `Vec`. A host that keeps them beside other things makes a `Hub` over them for each call: it is a borrow.
+/// let mut words = vec![0; settings.hub_words().ok_or(Refusal::BadSetting)?];
+/// Hub::set_up(&mut words, &settings, &mut region)?;
+/// Hub::from_words(&mut words).connect(PeerId(0))?;
+/// # Ok(())
+/// # }
+/// ```
 ///
 /// The region and the delivery table are lent to the calls that need them. A table with as many records as there are peers is
 /// long enough; the calls answer the part of it that they filled, in ring order. Set-up touches the whole region; a reset, a

@@ -79,13 +79,8 @@ pub const REGISTER_BYTES: u64 = 4096;
 /// Bytes of a peer's MSI-X region, BAR 1.
 pub const MSIX_BYTES: u64 = 4096;
 
-/// How many words a hub of so many peers and vectors has: no more and no fewer are taken. For any numbers, also such as set-up
-/// refuses; a sum that does not fit is the largest number.
-///
-/// ```
-/// let words = [0u32; ivshmem::hub_words(4, 4)];
-/// assert_eq!(words.len(), 106);
-/// ```
+/// How many words a hub of so many peers and vectors has: no more and no fewer are taken. It answers any numbers, also such as
+/// set-up refuses; where the sum does not fit, with the largest `usize`.
 #[must_use]
 pub const fn hub_words(peers: usize, vectors: usize) -> usize {
     let registers = peers.saturating_mul(8);

@@ -254,7 +254,7 @@ fn at_words(call: &Call, answer: &Answer, model: &Model) -> [bool; WORDS.len()] 
     let wrong = !set_up && lent != asked;
     let refused = |given: u32| set_up && number == given;
     let another_region = model.also.contains(&2);
-    let huge = |word: Option<u32>| word.is_some_and(|number| number >= 1 << 16);
+    let huge = |word: Option<u32>| word.is_some_and(|number| number > 1 << 16);
     [
         wrong && lent + 1 == asked,
         wrong && lent == asked + 1,

@@ -105,8 +105,8 @@ impl Generator {
         lengths
     }
 
-    /// How many words more than a hub with these numbers has: one, or one fewer, so that a few are left, as the largest hub or
-    /// another has. Now and then it is the right number all the same.
+    /// A wrong number of words, less what a hub with these numbers has: one more, one fewer, 0 to 10 in all, or as many as the
+    /// largest hub or another has. Now and then it is right all the same.
     fn wrong_words(&mut self, numbers: &Numbers) -> i64 {
         let other =
             Numbers { peers: self.random.below(PEERS + 1), vectors: self.random.below(VECTORS + 1), ..*numbers };

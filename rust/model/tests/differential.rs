@@ -8,7 +8,7 @@ use model::subject::Library;
 
 #[test]
 fn library_and_model_agree() {
-    const CALLS: u64 = 6_000_000;
+    const CALLS: u64 = 5_000_000;
     let start = Instant::now();
     let counts = match compare::run(|| Library, 20, CALLS) {
         Ok(counts) => counts,
@@ -20,14 +20,14 @@ fn library_and_model_agree() {
 
     // Every answer that a call can give, every switch that alone stops a ring, the edges of the sizes, words of wrong numbers,
     // and nothing that can't be.
-    assert_eq!(counts.gaps(150), Vec::<String>::new());
+    assert_eq!(counts.gaps(140), Vec::<String>::new());
     for accepted in counts.calls.map(|kind| kind[0]) {
-        assert!(accepted >= 13_000, "{accepted} calls of a kind accepted");
+        assert!(accepted >= 11_400, "{accepted} calls of a kind accepted");
     }
-    assert!(counts.delivered >= 340_000);
-    assert!(counts.one_shot >= 34_000);
-    assert!(counts.several >= 34_000);
-    assert!(counts.lost_alone.iter().all(|&rings| rings >= 5_000));
+    assert!(counts.delivered >= 285_000);
+    assert!(counts.one_shot >= 28_500);
+    assert!(counts.several >= 28_500);
+    assert!(counts.lost_alone.iter().all(|&rings| rings >= 4_300));
     // Of 63 numbers of peers by 16 of vectors.
-    assert!(counts.hubs.len() >= 950);
+    assert!(counts.hubs.len() >= 940);
 }
