@@ -264,6 +264,8 @@ fn words_of_another_number() {
         assert!(seen.largest - seen.largest_sound >= 10_000);
     }
     assert!(another.sound >= 300_000);
+    // Every call but set-up was made by or on peers that the hub in place does not have.
+    assert!(counts.calls[1..].iter().all(|kind| kind[3] >= 5_000));
     let (calls, set_ups) = counts.words.split_at(ON_WRONG_WORDS);
     assert!(calls.iter().all(|&calls| calls >= 10_000));
     assert!(set_ups.iter().all(|&set_ups| set_ups >= 1_000));
