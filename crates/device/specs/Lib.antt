@@ -16,3 +16,4 @@ pub mod Step
 pub mod History
 pub mod Window
 pub mod OneShot
+pub mod Reached
