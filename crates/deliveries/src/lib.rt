@@ -90,8 +90,9 @@ pub fn sent(hub: &[u32], target: u8, v: Vector) -> Delivery
     ensures { λ r. ⌜ r ≡ sentAt (hubOf (now (hub .entry))) v target ⌝ }
 {
     let e = words::entry_at(hub, target as usize, v.0 as usize);
+    let address = e.low as u64 + 4294967296 * (e.high as u64);
     Delivery {
-        address: e.low as u64 + 4294967296 * (e.high as u64),
+        address,
         payload: e.payload,
         target: PeerId(target as u16),
         vector: v,

@@ -11,17 +11,17 @@ cast-entry-at c = search needs
 entry-at-requires : tie.Need-entry-at-requires
 entry-at-requires c κs = search needs
 
-cast-t7 : tie.Need-cast-t7
-cast-t7 c = search needs
+cast-address : tie.Need-cast-address
+cast-address c = search needs
 
-cast-t8 : tie.Need-cast-t8
-cast-t8 c = search needs
+cast-address-2 : tie.Need-cast-address-2
+cast-address-2 c = search needs
 
-mul-t9 : tie.Need-mul-t9
-mul-t9 c = search needs
+mul-address : tie.Need-mul-address
+mul-address c = search needs
 
-add-t10 : tie.Need-add-t10
-add-t10 c = search needs
+add-address : tie.Need-add-address
+add-address c = search needs
 
 returns : tie.Need-returns
 unfolding sentAt deliveryOf
@@ -29,4 +29,4 @@ returns c = rw (c .before .before .entry-at .ensures)
 
 pub sent-spec : {M : Type 1} → statement M
 sent-spec =
-    tie.close (tie.spec cast-entry-at entry-at-requires cast-t7 cast-t8 mul-t9 add-t10 returns)
+    tie.close (tie.spec cast-entry-at entry-at-requires cast-address cast-address-2 mul-address add-address returns)
