@@ -14,22 +14,21 @@ use prog.Memory.{Memory}
 use prog.Routine.{Routine}
 use prog.Wp.{Heap, Env, Calls, Loops}
 use ghost.Atoms.{Atoms, sem}
-use contract.Monad.{Fun, fact}
+use contract.Monad.{Fun}
 use sound.WpLaws.{FmC}
-use types.Kit.{Given, Item, Goal, Soaks, Seq, Post, runs, lands, ‵, raw, given, _⊛_, some, later, ⋆, _$_, _∵_, !, qed, move, use0, use1, use2, use3, drop, split, join, pick, learn, fsplit, fjoin, feqI, feqL, frame, await, done}
+use types.Kit.{Given, Item, Goal, Soaks, Seq, Post, runs, lands, ‵, raw, given, _⊛_, some, later, ⋆, _$_, _∵_, !, qed, move, use0, use2, use3, drop, split, join, pick, learn, fsplit, fjoin, feqI, frame, await, done}
 use types.Run.{Opds}
 use types.Tokens.{lft-new, lft-end}
 use borrow.Rule.Slice.Handed.{sl-share}
 use borrow.Rule.Slice.Lend.{keptF, sl-relend, sl-relent-backˡ}
 use borrow.Table.Owned as Owned
 use denote.Builtin.{u8, u32, usize}
-use denote.Laws.{Is, shows}
+use denote.Laws.{Is}
 use denote.RattleType.{RattleType}
 use denote.Slice.{Room}
-use denote.Steps.{owned, facts, heard, nothing}
+use denote.Steps.{owned, nothing}
 use denote.Struct.Laws as LL
 use denote.Triple.Call.{calls-at}
-use denote.Triple.Clauses.{ensured, Lasts, lasts}
 use denote.Triple.Entry.{Args}
 use denote.Triple.Spec.{tripleOf}
 use denote.Triple.Statement.{Contract, Triple}
@@ -39,7 +38,7 @@ use Rattle.device.specs.declared.Delivery.{Delivery}
 use Rattle.words.specs.Layout.{hubOf}
 use Rattle.deliveries.proofs.Deliveries as L
 use Rattle.deliveries.proofs.Deliveries.Laws as L′
-use Rattle.deliveries.proofs.Lent.{Lent, reference, machine, token, owning, reading, left}
+use Rattle.deliveries.proofs.Lent.{Lent, reference, machine, token, owning, reading, left, returned, leaves}
 use Rattle.deliveries.specs.Listed.{listed, handedOut}
 use Rattle.deliveries.proofs.hand_out as hand-out
 use Rattle.deliveries.proofs.hand_out.Symbol.{name as #deliveries·hand-out}
@@ -131,11 +130,8 @@ module _ {M : Type 1} {𝓤 : URA M} {H : Heap 𝓤} {A : Atoms 𝓤} {K : Type 
   hands t mem run hub table fm known r w asked is operands next =
       move t (0 ∷ 2 ∷ []) $ join t $ use3 W (raw (HandOut 𝓤 H A mem run .pre (to-hand 𝓤 H A mem run hub table r))) (goes-hand 𝓤 H A W mem run hub table r w asked is) $
       calls-at t fm (HandOut 𝓤 H A mem run) known (to-hand 𝓤 H A mem run hub table r) operands (λ w′.
-      use1 W (later (some (λ (n : ℕ). ((‵ (token hub) ⊛ (‵ (token table) ⊛ ‵ ftrue)) ⊛ ‵ (usize .own n (w′ ∷ []))) ⊛ raw (ensured 𝓤 H A hand-out.ended (hand-out.clauses 𝓤 H A mem run) (hub .lifetime, (table .lifetime, tt)) (handed 𝓤 H A mem run hub table r) tt n)))) (id⊢ 𝓤 _) $ await t tt $ pick t (λ n.
-      split t $ move t (1 ∷ []) $ use1 W (some (λ (ts : Lasts hand-out.ended (hub .lifetime, (table .lifetime, tt)) (handed 𝓤 H A mem run hub table r)). ‵ (lasts hand-out.ended (hub .lifetime, (table .lifetime, tt)) (handed 𝓤 H A mem run hub table r) ts) ⊛ raw (fact 𝓤 (Handed hub table r n (ts .1 .0))))) (id⊢ 𝓤 _) $ pick t (λ ts.
-      split t $ move t (1 ∷ []) $ heard t (Handed hub table r n (ts .1 .0)) (λ h. fsplit t $ drop t $ fsplit t $ fsplit t $ move t (1 ∷ []) $ feqL t (λ e.
-      -- [the table's last list; true; the tokens and the count; …]
-      move t (2 ∷ []) $ split t $ move t (1 ∷ []) $ facts t usize (Is usize) (shows 𝓤 H A usize) n (w′ ∷ []) (λ is′. move t (2 ∷ []) $ drop t $ next n w′ (ts .1 .0) h e is′))))))
+      returned t tt usize w′ hand-out.ended (hub .lifetime, (table .lifetime, tt)) (handed 𝓤 H A mem run hub table r) (‵ (token hub) ⊛ (‵ (token table) ⊛ ‵ ftrue)) (λ n ts. Handed hub table r n (ts .1 .0)) (id⊢ 𝓤 _) (λ n ts h is′.
+      fsplit t $ drop t $ leaves t table (ts .1 .0) (λ e. drop t $ move t (1 ∷ 0 ∷ []) $ next n w′ (ts .1 .0) h e is′)))
 
 module _ {M : Type 1} (𝓤 : URA M) (H : Heap 𝓤) (A : Atoms 𝓤) (W : Given 𝓤 H A) (hub : Lent u32) (region : Lent u8) (table : Lent D.the-row) where
   -- the call by value takes hub, region and numbers, which own nothing

@@ -14,23 +14,22 @@ use prog.Routine.{Routine}
 use prog.Wp.{Heap, Calls, Loops, WpFn, Tables}
 use ghost.Atoms.{Atoms, sem}
 use contract.Lifetimes.{Lfts, Shares}
-use contract.Monad.{Fun, fact}
+use contract.Monad.{Fun}
 use contract.Running.{givenOf, tables, tablesOf}
 use sound.WpLaws.{FmC, fmOf, WpFn-mono}
-use types.Kit.{Given, ‵, raw, _⊛_, some, later, ⋆, _$_, _∵_, !, qed, by, move, keep, use0, use1, use3, split, join, pick, rewrite, fsplit, fjoin, feqL, suffices, await, done}
+use types.Kit.{Given, ‵, raw, _⊛_, ⋆, _$_, _∵_, !, qed, by, move, keep, use0, use3, split, join, rewrite, fsplit, fjoin, suffices, done}
 use types.Part.{agg, whole, sub, look-in}
 use types.Run.{look, init, forget, stop, hop, fld, from, load, addr, of-opd, and-then, no-more, assigns, land, returns, enter, alloc1, alloc0, params1, pass1, pass0, free1, free0}
 use denote.Builtin.{u8, u32, u64}
 use denote.Exit.{yes}
-use denote.Laws.{Is, shows}
+use denote.Laws.{Is}
 use denote.Plain.{uint-makes, uint-vals, uint-tells, uint-lawful}
 use denote.RattleType.{owns}
 use denote.Signature.{plain}
 use denote.Slice.{sliceTy, sliceVal, slice-vals, mut-slice-tells}
-use denote.Steps.{only, owned, facts, heard, nothing}
+use denote.Steps.{only, owned, nothing}
 use denote.Struct.Laws as LL
 use denote.Triple.Call.{calls-at}
-use denote.Triple.Clauses.{ensured, Lasts, lasts}
 use denote.Triple.Entry.{Args, Vals, onEntry}
 use denote.Triple.Spec.{Meets, tripleOf}
 use denote.Triple.Table.{entered, cited}
@@ -40,7 +39,7 @@ use Rattle.device.proofs.Delivery as D
 use Rattle.device.specs.declared.Delivery.{Delivery}
 use Rattle.device.specs.Call.{Act}
 use Rattle.device.specs.Call
-use Rattle.deliveries.proofs.Lent.{Lent, lent, reference, machine, token, owning}
+use Rattle.deliveries.proofs.Lent.{Lent, lent, reference, machine, token, owning, returned, leaves}
 use Rattle.deliveries.proofs.hand_out.Symbol as hand-out-def
 use Rattle.deliveries.proofs.hand_out.Met as hand-out-thm
 use Rattle.deliveries.proofs.hand_out.Symbol.{name as #deliveries·hand-out}
@@ -158,29 +157,28 @@ module _ {M : Type 1} (𝓤 : URA M) (H : Heap 𝓤) (A : Atoms 𝓤) (W : Given
         move ! (3 ∷ 7 ∷ []) $ lends-on ! tt hub (λ α δ. move ! (0 ∷ 5 ∷ 1 ∷ 8 ∷ []) $ join ! $ use3 W (raw (Core 𝓤 H A mem run .pre (to-core α δ))) (goes-core 𝓤 H A W (lentOn hub α δ) region table numbers made) $
         -- [what the call asks; what is kept of the hub; the table's token; true; table; the numbers; _19; …]
         calls-at ! fm (Core 𝓤 H A mem run) known (to-core α δ) (and-then ! (load ! (from ! (stop !)) (look ! 22 refl)) (and-then ! (load ! (from ! (stop !)) (look ! 18 refl)) (and-then ! (load ! (from ! (stop !)) (look ! 14 refl)) (and-then ! (load ! (from ! (stop !)) (look ! 36 refl)) (and-then ! (load ! (from ! (stop !)) (look ! 34 refl)) (and-then ! (load ! (from ! (stop !)) (look ! 32 refl)) (and-then ! (load ! (from ! (stop !)) (look ! 30 refl)) (no-more !)))))))) (λ w.
-        use1 W (later (some (λ (r : Served). ((‵ (token (lentOn hub α δ)) ⊛ (‵ (token region) ⊛ ‵ ftrue)) ⊛ ‵ (S.the-row .own r (w ∷ []))) ⊛ raw (ensured 𝓤 H A core.ended (core.clauses 𝓤 H A mem run) (α ∷ [], (region .lifetime, tt)) (passed α δ) tt r)))) (id⊢ 𝓤 _) $ await ! tt $ pick ! (λ r.
-        split ! $ move ! (1 ∷ []) $ use1 W (some (λ (zs : Lasts core.ended (α ∷ [], (region .lifetime, tt)) (passed α δ)). ‵ (lasts core.ended (α ∷ [], (region .lifetime, tt)) (passed α δ) zs) ⊛ raw (fact 𝓤 (Said (zs .0) (zs .1 .0) r)))) (id⊢ 𝓤 _) $ pick ! (λ zs.
-        split ! $ move ! (1 ∷ []) $ heard ! (Said (zs .0) (zs .1 .0) r) (λ s. fsplit ! $ fsplit ! $ move ! (1 ∷ []) $ feqL ! (λ e₀. move ! (1 ∷ []) $ fsplit ! $ fsplit ! $ move ! (1 ∷ []) $ feqL ! (λ e₁.
-        -- [the region's last list; …; the hub's; the tokens and the answer; what is kept of the hub; the table's token; true; table; the numbers; _19; …]
-        move ! (3 ∷ []) $ split ! $ move ! (1 ∷ []) $ facts ! S.the-row (Is S.the-row) (shows 𝓤 H A S.the-row) r (w ∷ []) (λ is. land ! (from ! (stop !)) (init ! 31 refl (LL.lawful S.the-type S′.the-laws 𝓤 H A W .typed r _ is .0)) $
+        returned ! tt S.the-row w core.ended (α ∷ [], (region .lifetime, tt)) (passed α δ) (‵ (token (lentOn hub α δ)) ⊛ (‵ (token region) ⊛ ‵ ftrue)) (λ r zs. Said (zs .0) (zs .1 .0) r) (id⊢ 𝓤 _) (λ r zs s is.
+        leaves ! (lentOn hub α δ) (zs .0) (λ _. leaves ! region (zs .1 .0) (λ e₁.
+        -- [the numbers' part; the region's last list; the hub's; the tokens; what is kept of the hub; the table's token; true; table; the numbers; _19; …]
+        land ! (from ! (stop !)) (init ! 31 refl (LL.lawful S.the-type S′.the-laws 𝓤 H A W .typed r _ is .0)) $
         rewrite ! 31 (λ (u : Val). ‵ (fat fullShare S′.mir l₈ 0 u)) (ap only (LL.tells S.the-type S′.the-laws r _ is)) refl $
-        split ! $ move ! (0 ∷ 4 ∷ 5 ∷ []) $ reads-again ! tt hub α δ (zs .0) (λ e δ′.
-        -- [the hub's token; the hub; its last list; the region's token; its last list; …; the table's token; true; table; the numbers; _19; …]
+        move ! (3 ∷ []) $ split ! $ move ! (0 ∷ 4 ∷ 5 ∷ []) $ reads-again ! tt hub α δ (zs .0) (λ e₀ δ′.
+        -- [the hub's token; the hub; its last list; the region's token; …; its last list; the table's token; true; table; the numbers; _19; …]
         assigns ! (addr ! (from ! (fld ! refl (hop ! (look-in ! 46 (sub ! 0 refl (whole !))) (stop !))))) (from ! (stop !)) (init ! 16 refl (tt, tt)) $
         assigns ! (agg ! (and-then ! (load ! (from ! (stop !)) (look ! 16 refl)) (and-then ! (load ! (from ! (fld ! refl (stop !))) (look-in ! 46 (sub ! 1 refl (whole !)))) (no-more !)))) (from ! (stop !)) (init ! 14 refl (tt, (tt, (record { fits = hub .room .0 }, tt)))) $
-        rewrite ! 14 (λ (n : ℕ). ‵ (fat fullShare (sliceTy (tyRef erased imm (tyInt w32))) l₁₇ 0 (sliceVal (hub .block, hub .offset) n))) (sym e) refl $
+        rewrite ! 14 (λ (n : ℕ). ‵ (fat fullShare (sliceTy (tyRef erased imm (tyInt w32))) l₁₇ 0 (sliceVal (hub .block, hub .offset) n))) (sym e₀) refl $
         assigns ! (addr ! (from ! (fld ! refl (hop ! (look-in ! 42 (sub ! 0 refl (whole !))) (stop !))))) (from ! (stop !)) (init ! 12 refl (tt, tt)) $
         assigns ! (agg ! (and-then ! (load ! (from ! (stop !)) (look ! 12 refl)) (and-then ! (load ! (from ! (fld ! refl (stop !))) (look-in ! 42 (sub ! 1 refl (whole !)))) (no-more !)))) (from ! (stop !)) (init ! 10 refl (tt, (tt, (record { fits = table .room .0 }, tt)))) $
-        move ! (0 ∷ 1 ∷ 6 ∷ 8 ∷ []) $ hands ! mem run (lentAgain hub (zs .0) e δ′) table fm known-hand r w (can-hand-out (hub .now) (zs .0) (region .now) (zs .1 .0) id (act offset width value) r (length (table .now)) (register-write-room offset width value) s) is (and-then ! (load ! (from ! (stop !)) (look ! 11 refl)) (and-then ! (load ! (from ! (stop !)) (look ! 7 refl)) (and-then ! (load ! (from ! (fld ! refl (stop !))) (look-in ! 29 (sub ! 1 refl (whole !)))) (no-more !)))) (λ n w′ table′ h e₂ is′.
-        -- [the tokens of hub and table; the table's last list; the hub's; the region's token; its last list; …; true; the numbers; _19; …]
+        move ! (0 ∷ 1 ∷ 6 ∷ 8 ∷ []) $ hands ! mem run (lentAgain hub (zs .0) e₀ δ′) table fm known-hand r w (can-hand-out (hub .now) (zs .0) (region .now) (zs .1 .0) id (act offset width value) r (length (table .now)) (register-write-room offset width value) s) is (and-then ! (load ! (from ! (stop !)) (look ! 11 refl)) (and-then ! (load ! (from ! (stop !)) (look ! 7 refl)) (and-then ! (load ! (from ! (fld ! refl (stop !))) (look-in ! 29 (sub ! 1 refl (whole !)))) (no-more !)))) (λ n w′ table′ h e₂ is′.
+        -- [the tokens of hub and table; the table's last list; the hub's; the region's token; …; its last list; true; the numbers; _19; …]
         land ! (from ! (stop !)) (init ! 28 refl (uint-lawful 𝓤 H A W w64 .typed n _ is′ .0)) $
         rewrite ! 28 (λ (u : Val). ‵ (fat fullShare word l₉ 0 u)) (ap only (is′ .0)) refl $
         assigns ! (agg ! (and-then ! (load ! (from ! (fld ! refl (stop !))) (look-in ! 30 (sub ! 0 refl (whole !)))) (and-then ! (load ! (from ! (stop !)) (look ! 28 refl)) (no-more !)))) (from ! (stop !)) (init ! 46 refl (LL.lawful R.the-type R′.the-laws 𝓤 H A W .typed (counted r n) _ (is-counted r n w is (is′ .1)) .0)) $
         returns ! (look ! 46 refl) $ forget ! 8 refl $ forget ! 10 refl $ forget ! 12 refl $ forget ! 14 refl $ forget ! 16 refl $ forget ! 18 refl $ forget ! 20 refl $ forget ! 22 refl $ forget ! 24 refl $ forget ! 26 refl $ forget ! 28 refl $ forget ! 30 refl $ forget ! 32 refl $ forget ! 34 refl $ forget ! 36 refl $ forget ! 38 refl $ forget ! 40 refl $ forget ! 42 refl $ forget ! 44 refl $ forget ! 46 refl $
         move ! (46 ∷ 47 ∷ []) $ free1 ! $ move ! (44 ∷ 45 ∷ []) $ free1 ! $ move ! (42 ∷ 43 ∷ []) $ free1 ! $ move ! (40 ∷ 41 ∷ []) $ free1 ! $ move ! (38 ∷ 39 ∷ []) $ free1 ! $ move ! (36 ∷ 37 ∷ []) $ free1 ! $ move ! (34 ∷ 35 ∷ []) $ free1 ! $ move ! (32 ∷ 33 ∷ []) $ free1 ! $ move ! (30 ∷ 31 ∷ []) $ free1 ! $ move ! (28 ∷ 29 ∷ []) $ free1 ! $
         move ! (26 ∷ 27 ∷ []) $ free1 ! $ move ! (24 ∷ 25 ∷ []) $ free1 ! $ move ! (22 ∷ 23 ∷ []) $ free1 ! $ move ! (20 ∷ 21 ∷ []) $ free1 ! $ move ! (18 ∷ 19 ∷ []) $ free1 ! $ move ! (16 ∷ 17 ∷ []) $ free1 ! $ move ! (14 ∷ 15 ∷ []) $ free1 ! $ move ! (12 ∷ 13 ∷ []) $ free1 ! $ move ! (10 ∷ 11 ∷ []) $ free1 ! $ move ! (8 ∷ 9 ∷ []) $ free1 ! $ free0 ! $
-        keep ! (0 ∷ 3 ∷ 2 ∷ 4 ∷ 1 ∷ []) $
-        by ! (exits r n (zs .0) (zs .1 .0) table′ (is-counted r n w is (is′ .1)) (hands-out (hub .now) (zs .0) (region .now) (zs .1 .0) id (act offset width value) r (table .now) table′ n s h) e₀ e₁ e₂)))))))))))))))))))))))))))))))
+        keep ! (0 ∷ 3 ∷ 2 ∷ 5 ∷ 1 ∷ []) $
+        by ! (exits r n (zs .0) (zs .1 .0) table′ (is-counted r n w is (is′ .1)) (hands-out (hub .now) (zs .0) (region .now) (zs .1 .0) id (act offset width value) r (table .now) table′ n s h) e₀ e₁ e₂))))))))))))))))))))))))))))
 
 module _ {M : Type 1} (𝓤 : URA M) (H : Heap 𝓤) (A : Atoms 𝓤) (W : Given 𝓤 H A) (mem : Memory → SProp 𝓤) (run : Routine → Fun 𝓤) (𝓣 : Tables 𝓤 H)
     (known : Triple 𝓤 (𝓣 .C #hub·register-write) (Core 𝓤 H A mem run)) (known-hand : Triple 𝓤 (𝓣 .C #deliveries·hand-out) (HandOut 𝓤 H A mem run)) where
