@@ -11,8 +11,8 @@ ghost use Rattle.words.specs.Layout.{hubOf};
 ghost use Rattle.gate.specs.RingOutcome.{sentAt, outcomeList, Usable};
 ghost use Rattle.deliveries.specs.Listed.{listed, Lists, Empty, ringBut, handedOut};
 
-// Who was delivered to, and the vector. A call rings one vector, each id at most once. Address and data stand in the targets'
-// entries, which no ring changes.
+// Who was delivered to, in ring order, and the vector: a call rings one vector, each id at most once. Address and data stand in
+// the targets' entries, which no ring changes.
 pub struct Deliveries {
     pub count: usize,
     pub vector: Vector,
@@ -30,6 +30,7 @@ fn empty(v: Vector) -> Deliveries
     }
 }
 
+// Count 0: the list is empty, whatever hub its records would be made from.
 pub fn none() -> Deliveries
     ensures { λ r. ⌜ r .count ≡ 0 ⌝ }
 {

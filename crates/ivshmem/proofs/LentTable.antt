@@ -35,6 +35,8 @@ use denote.Triple.Statement.{Contract, Triple}
 use denote.Triple.Walked.{says}
 use Rattle.device.proofs.Delivery as D
 use Rattle.device.specs.declared.Delivery.{Delivery}
+use Rattle.device.specs.Call.{Act}
+use Rattle.device.specs.Call
 use Rattle.words.specs.Layout.{hubOf}
 use Rattle.deliveries.proofs.Deliveries as L
 use Rattle.deliveries.proofs.Deliveries.Laws as L′
@@ -45,6 +47,7 @@ use Rattle.deliveries.proofs.hand_out.Symbol.{name as #deliveries·hand-out}
 use Rattle.hub.proofs.Served as S
 use Rattle.hub.proofs.Served.Laws as S′
 use Rattle.hub.specs.declared.Served.{Served}
+use Rattle.hub.specs.Promises.{Serves}
 use Rattle.ivshmem.specs.declared.Counted.{Counted}
 use Rattle.ivshmem.proofs.Counted as R
 use Rattle.ivshmem.proofs.Counted.Laws as R′
@@ -84,6 +87,10 @@ module _ {M : Type 1} {𝓤 : URA M} {H : Heap 𝓤} {A : Atoms 𝓤} {K : Type 
 
 abbrev pub counted : Served → ℕ → Counted
 counted r n = record { reply = r .reply; count = n }
+
+-- what the call by value ensures
+abbrev pub Said : Lent u32 → Lent u8 → Lent D.the-row → ℕ → (ℕ → Act) → List ℕ → List ℕ → Served → Type 0
+Said hub region table id act hub′ region′ r = Serves (hub .now) hub′ (region .now) region′ (Call.call id (act (length (table .now)))) r
 
 -- what `hand_out` asks, and what it ensures
 abbrev pub Asked : Lent D.the-row → Served → Type 0

@@ -50,7 +50,7 @@ use Rattle.hub.specs.declared.Served.{Served}
 use Rattle.hub.specs.Promises.{Serves}
 use Rattle.ivshmem.specs.Promises.{HandsOut}
 use Rattle.ivshmem.proofs.TableLaws.{Roomy, can-hand-out, hands-out}
-use Rattle.ivshmem.proofs.LentTable.{lentOn, lentAgain, lends-on, reads-again, counted, is-counted, HandOut, hands, goes-core, Had, ends}
+use Rattle.ivshmem.proofs.LentTable.{lentOn, lentAgain, lends-on, reads-again, counted, Said, is-counted, HandOut, hands, goes-core, Had, ends}
 use Rattle.ivshmem.proofs.Counted as R
 use Rattle.ivshmem.proofs.Counted.Laws as R′
 use Rattle.ivshmem.proofs.ivshmem_reset as reset
@@ -178,10 +178,6 @@ module _ {M : Type 1} (𝓤 : URA M) (H : Heap 𝓤) (A : Atoms 𝓤) (W : Given
       suffices ! _ (ends-at 𝓤 H A reset.ended stayed (clauses 𝓤 act) W bound (LL.val R.the-type R′.the-laws (counted r n)) (counted r n) (hub′, (region′, (table′, (tt, tt)))) (e₀, (e₁, (e₂, (tt, tt))))) $ says ! promised $
       by ! (ends 𝓤 H A W hub region table hub′ region′ table′ ids made-ids (counted r n) is)
 
-  -- what the call by value ensures
-  abbrev Said : List ℕ → List ℕ → Served → Type 0
-  Said hub′ region′ r = Serves (hub .now) hub′ (region .now) region′ (Call.call id (act (length (table .now)))) r
-
   module _ (name : Name) (roomy : Roomy act) (C : Calls 𝓤 H) (Λ : Loops 𝓤 H) (fm : FmC 𝓤 H (W .laws) C) (known : Triple 𝓤 (C name) (Core 𝓤 H A act)) (known-hand : Triple 𝓤 (C #deliveries·hand-out) (HandOut 𝓤 H A mem run)) where
     walk : ent 𝓤 (onEntry 𝓤 H A reset.signature κs qs a vals) (WpFn 𝓤 H C Λ (function name) (machine hub ∷ machine region ∷ machine table ∷ vint w64 id ∷ []) Post)
     walk =
@@ -201,7 +197,7 @@ module _ {M : Type 1} (𝓤 : URA M) (H : Heap 𝓤) (A : Atoms 𝓤) (W : Given
         move ! (3 ∷ 7 ∷ []) $ lends-on ! tt hub (λ α δ. move ! (0 ∷ 5 ∷ 1 ∷ 8 ∷ []) $ join ! $ use3 W (raw (Core 𝓤 H A act .pre (to-core α δ))) (goes-core 𝓤 H A W (lentOn hub α δ) region table numbers made) $
         -- [what the call asks; what is kept of the hub; the table's token; true; table; the numbers; _16; …]
         calls-at ! fm (Core 𝓤 H A act) known (to-core α δ) (and-then ! (load ! (from ! (stop !)) (look ! 22 refl)) (and-then ! (load ! (from ! (stop !)) (look ! 18 refl)) (and-then ! (load ! (from ! (stop !)) (look ! 14 refl)) (and-then ! (load ! (from ! (stop !)) (look ! 30 refl)) (no-more !))))) (λ w.
-        returned ! tt S.the-row w core.ended (α ∷ [], (region .lifetime, tt)) (passed α δ) (‵ (token (lentOn hub α δ)) ⊛ (‵ (token region) ⊛ ‵ ftrue)) (λ r zs. Said (zs .0) (zs .1 .0) r) (id⊢ 𝓤 _) (λ r zs s is.
+        returned ! tt S.the-row w core.ended (α ∷ [], (region .lifetime, tt)) (passed α δ) (‵ (token (lentOn hub α δ)) ⊛ (‵ (token region) ⊛ ‵ ftrue)) (λ r zs. Said hub region table id act (zs .0) (zs .1 .0) r) (id⊢ 𝓤 _) (λ r zs s is.
         leaves ! (lentOn hub α δ) (zs .0) (λ _. leaves ! region (zs .1 .0) (λ e₁.
         -- [the numbers' part; the region's last list; the hub's; the tokens; what is kept of the hub; the table's token; true; table; the numbers; _16; …]
         land ! (from ! (stop !)) (init ! 31 refl (LL.lawful S.the-type S′.the-laws 𝓤 H A W .typed r _ is .0)) $

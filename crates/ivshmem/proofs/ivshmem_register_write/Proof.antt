@@ -38,7 +38,6 @@ use denote.Triple.Walked.{says, Stays, gave-slice, stay-none, walkOf, Walks, end
 use Rattle.device.proofs.Delivery as D
 use Rattle.device.specs.declared.Delivery.{Delivery}
 use Rattle.device.specs.Call.{Act}
-use Rattle.device.specs.Call
 use Rattle.deliveries.proofs.Lent.{Lent, lent, reference, machine, token, owning, returned, leaves}
 use Rattle.deliveries.proofs.hand_out.Symbol as hand-out-def
 use Rattle.deliveries.proofs.hand_out.Met as hand-out-thm
@@ -50,10 +49,9 @@ use Rattle.hub.proofs.register_write.Met as core-thm
 use Rattle.hub.proofs.Served as S
 use Rattle.hub.proofs.Served.Laws as S′
 use Rattle.hub.specs.declared.Served.{Served}
-use Rattle.hub.specs.Promises.{Serves}
 use Rattle.ivshmem.specs.Promises.{HandsOut}
 use Rattle.ivshmem.proofs.TableLaws.{register-write-room, can-hand-out, hands-out}
-use Rattle.ivshmem.proofs.LentTable.{lentOn, lentAgain, lends-on, reads-again, counted, is-counted, HandOut, hands, goes-core, Had, ends}
+use Rattle.ivshmem.proofs.LentTable.{lentOn, lentAgain, lends-on, reads-again, counted, Said, is-counted, HandOut, hands, goes-core, Had, ends}
 use Rattle.ivshmem.proofs.Counted as R
 use Rattle.ivshmem.proofs.Counted.Laws as R′
 use Rattle.ivshmem.proofs.ivshmem_register_write.Key.{name as #ivshmem·ivshmem-register-write}
@@ -133,10 +131,6 @@ module _ {M : Type 1} (𝓤 : URA M) (H : Heap 𝓤) (A : Atoms 𝓤) (W : Given
       suffices ! _ (ends-at 𝓤 H A register-write.ended stayed (register-write.clauses 𝓤 H A mem run) W bound (LL.val R.the-type R′.the-laws (counted r n)) (counted r n) (hub′, (region′, (table′, (tt, (tt, (tt, (tt, tt))))))) (e₀, (e₁, (e₂, (tt, (tt, (tt, (tt, tt)))))))) $ says ! promised $
       by ! (ends 𝓤 H A W hub region table hub′ region′ table′ ids made-ids (counted r n) is)
 
-  -- what the call by value ensures
-  abbrev Said : List ℕ → List ℕ → Served → Type 0
-  Said hub′ region′ r = Serves (hub .now) hub′ (region .now) region′ (Call.call id (act offset width value (length (table .now)))) r
-
   module _ (C : Calls 𝓤 H) (Λ : Loops 𝓤 H) (fm : FmC 𝓤 H (W .laws) C) (known : Triple 𝓤 (C #hub·register-write) (Core 𝓤 H A mem run)) (known-hand : Triple 𝓤 (C #deliveries·hand-out) (HandOut 𝓤 H A mem run)) where
     walk : ent 𝓤 (onEntry 𝓤 H A register-write.signature κs qs a vals) (WpFn 𝓤 H C Λ code.function (machine hub ∷ machine region ∷ machine table ∷ vint w64 id ∷ vint w64 offset ∷ vint w64 width ∷ vint w32 value ∷ []) Post)
     walk =
@@ -157,7 +151,7 @@ module _ {M : Type 1} (𝓤 : URA M) (H : Heap 𝓤) (A : Atoms 𝓤) (W : Given
         move ! (3 ∷ 7 ∷ []) $ lends-on ! tt hub (λ α δ. move ! (0 ∷ 5 ∷ 1 ∷ 8 ∷ []) $ join ! $ use3 W (raw (Core 𝓤 H A mem run .pre (to-core α δ))) (goes-core 𝓤 H A W (lentOn hub α δ) region table numbers made) $
         -- [what the call asks; what is kept of the hub; the table's token; true; table; the numbers; _19; …]
         calls-at ! fm (Core 𝓤 H A mem run) known (to-core α δ) (and-then ! (load ! (from ! (stop !)) (look ! 22 refl)) (and-then ! (load ! (from ! (stop !)) (look ! 18 refl)) (and-then ! (load ! (from ! (stop !)) (look ! 14 refl)) (and-then ! (load ! (from ! (stop !)) (look ! 36 refl)) (and-then ! (load ! (from ! (stop !)) (look ! 34 refl)) (and-then ! (load ! (from ! (stop !)) (look ! 32 refl)) (and-then ! (load ! (from ! (stop !)) (look ! 30 refl)) (no-more !)))))))) (λ w.
-        returned ! tt S.the-row w core.ended (α ∷ [], (region .lifetime, tt)) (passed α δ) (‵ (token (lentOn hub α δ)) ⊛ (‵ (token region) ⊛ ‵ ftrue)) (λ r zs. Said (zs .0) (zs .1 .0) r) (id⊢ 𝓤 _) (λ r zs s is.
+        returned ! tt S.the-row w core.ended (α ∷ [], (region .lifetime, tt)) (passed α δ) (‵ (token (lentOn hub α δ)) ⊛ (‵ (token region) ⊛ ‵ ftrue)) (λ r zs. Said hub region table id (act offset width value) (zs .0) (zs .1 .0) r) (id⊢ 𝓤 _) (λ r zs s is.
         leaves ! (lentOn hub α δ) (zs .0) (λ _. leaves ! region (zs .1 .0) (λ e₁.
         -- [the numbers' part; the region's last list; the hub's; the tokens; what is kept of the hub; the table's token; true; table; the numbers; _19; …]
         land ! (from ! (stop !)) (init ! 31 refl (LL.lawful S.the-type S′.the-laws 𝓤 H A W .typed r _ is .0)) $
