@@ -1,7 +1,7 @@
 -- The cases of 'Numbers accepted at set-up', with the bounds of C-12, one table, checked by one theorem: what a set-up answers where
 -- N, V or S is at a bound, or next to it. So the bounds themselves are held to the rules, and not only the code to the bounds.
 use Prim.Native.Nat.{ℕ, _^_}
-use mathlib.Core.Bool.{true}
+use mathlib.Core.Bool.{Bool, true, false}
 use mathlib.Core.List.{List, [], _∷_}
 use mathlib.Core.Path.{_≡_, refl}
 use lib.ListN.{replicate}
@@ -11,11 +11,16 @@ use Rattle.device.specs.SetUp.{total, accepted, setUpRefusal}
 use Rattle.device.specs.Sizes.{maxPeers, maxVectors}
 use Rattle.device.proofs.BenchCases.{Case, Right}
 
--- a set-up with N, V and S in which all else is right, and the number that the rules give it
-abbrev case : ℕ → ℕ → ℕ → ℕ → Case
-case n v s says =
+-- a set-up with N, V and S, in words of the right number or not and with a region of so many bytes, and the number that the rules
+-- give it
+abbrev lent : Bool → ℕ → ℕ → ℕ → ℕ → ℕ → Case
+lent roomy bytes n v s says =
     let numbers : Settings = record { peers = n; vectors = v; table = s; common = 0; output = 0; base = 2 ^ 32; protocol = 0; vendor = 0; subsystem = 0 } in
-    record { gives = setUpRefusal true numbers (replicate s 0) ∷ []; says = says ∷ [] }
+    record { gives = setUpRefusal roomy numbers (replicate bytes 0) ∷ []; says = says ∷ [] }
+
+-- one in which all that is lent is right
+abbrev case : ℕ → ℕ → ℕ → ℕ → Case
+case n v s says = lent true s n v s says
 
 pub cases : List Case
 cases =
@@ -38,10 +43,16 @@ cases =
     -- 'S = 0 or 4100 refused, 4096 taken'
     ∷ case 2 1 0 1
     ∷ case 2 1 4100 1
+    -- what is lent: 1 whatever the words, then 10, then 2
+    ∷ lent false 4096 65 1 4096 1
+    ∷ lent false 4095 2 17 4096 1
+    ∷ lent false 4096 2 1 4096 10
+    ∷ lent false 4095 2 1 4096 10
+    ∷ lent true 4095 2 1 4096 2
     ∷ []
 
 -- each case by computation
 pub set-ups : Right cases
 unfolding cases first every total accepted setUpRefusal maxPeers maxVectors
 set-ups =
-    (refl, (refl, (refl, (refl, (refl, (refl, (refl, (refl, (refl, (refl, (refl, (refl, (refl, (refl, (refl, tt)))))))))))))))
+    (refl, (refl, (refl, (refl, (refl, (refl, (refl, (refl, (refl, (refl, (refl, (refl, (refl, (refl, (refl, (refl, (refl, (refl, (refl, (refl, tt))))))))))))))))))))
