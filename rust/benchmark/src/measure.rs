@@ -10,10 +10,10 @@ use model::subject::Answer;
 use crate::cases::{Case, ROUND, SHARED_BYTES};
 use crate::device::{Device, Lending, Library, Nothing};
 use crate::state::Form;
-use crate::yardstick::{PlainStruct, WordsAccumulating, WordsEarlyExit};
+use crate::yardstick::{PlainStruct, WordsAccumulating, WordsEarlyExit, WordsSpecialised};
 
 /// The yardsticks, in the order of the ratios.
-pub const YARDSTICKS: [&str; 3] = ["plain", "words, early exit", "words, accumulating"];
+pub const YARDSTICKS: [&str; 4] = ["plain", "words, early exit", "words, accumulating", "a copy for each V"];
 
 /// How often everything is measured; the table shows medians.
 pub const PASSES: usize = 5;
@@ -161,6 +161,7 @@ fn benches(case: &Case) -> Vec<Box<dyn Timed>> {
         Box::new(Bench::<PlainStruct>::new(case)),
         Box::new(Bench::<WordsEarlyExit>::new(case)),
         Box::new(Bench::<WordsAccumulating>::new(case)),
+        Box::new(Bench::<WordsSpecialised>::new(case)),
     ]
 }
 

@@ -14,7 +14,7 @@ use crate::cases::{Size, booted};
 use crate::device::{Device, Lending, Library, Nothing};
 use crate::measure::{PASSES, POSITIONS, Pass, Row, YARDSTICKS, median};
 use crate::state::Form;
-use crate::yardstick::{PlainStruct, WordsAccumulating, WordsEarlyExit};
+use crate::yardstick::{PlainStruct, WordsAccumulating, WordsEarlyExit, WordsSpecialised};
 
 /// Stores of a run, and how often the devices take turns at each place of the stack.
 const STORES: usize = 1_000_000;
@@ -107,6 +107,7 @@ fn hosts(receivers: &Receivers) -> Vec<Box<dyn Storing>> {
         Box::new(Host::<PlainStruct>::new(receivers)),
         Box::new(Host::<WordsEarlyExit>::new(receivers)),
         Box::new(Host::<WordsAccumulating>::new(receivers)),
+        Box::new(Host::<WordsSpecialised>::new(receivers)),
     ]
 }
 

@@ -1,4 +1,5 @@
-//! Check 10 in two forms: with an early exit at the first fault, and with all faults gathered.
+//! Check 10 in three forms: with an early exit at the first fault, with all faults gathered, and the same with a copy of the loops
+//! for each number of vectors.
 
 use crate::rules::{ADDRESS_BITS, BAR_BITS, COMMAND_BITS, Entry, MESSAGE_BITS, Registers, accepted};
 use crate::state::{PEER_WORDS, Parts, Plain, State};
@@ -68,14 +69,32 @@ pub struct Accumulating;
 /// The bits of a peer's words that must be 0 where the peer is connected.
 const FIXED: [u32; PEER_WORDS] = [0, !COMMAND_BITS, !BAR_BITS, !BAR_BITS, !1, !MESSAGE_BITS, !1, 0];
 
-/// A copy of the loops for each number of vectors: where the compiler knows it, it vectorises best.
+impl Soundness<[u32]> for Accumulating {
+    fn sound(hub: &[u32]) -> bool {
+        let numbers = hub.numbers();
+        if !accepted(&numbers) || !hub.fits(&numbers) {
+            return false;
+        }
+        let parts = Parts::of(hub, &numbers);
+        let own = |column| <[u32]>::chunks_exact(column, numbers.vectors as usize);
+        let entries = own(parts.low).zip(own(parts.high)).zip(own(parts.data)).zip(own(parts.control));
+        let slots = parts.rows.iter().zip(entries);
+        slots.fold(0, |faults, (row, (((low, high), data), control))| {
+            faults | slot_faults(row, low, high, data, control)
+        }) == 0
+    }
+}
+
+/// The same with a copy of the loops for each number of vectors, which the compiler then knows.
+pub struct Specialised;
+
 #[rustfmt::skip]
 const FAULTS: [fn(&Parts<'_>) -> u32; 16] = [
     faults::<1>, faults::<2>, faults::<3>, faults::<4>, faults::<5>, faults::<6>, faults::<7>, faults::<8>,
     faults::<9>, faults::<10>, faults::<11>, faults::<12>, faults::<13>, faults::<14>, faults::<15>, faults::<16>,
 ];
 
-impl Soundness<[u32]> for Accumulating {
+impl Soundness<[u32]> for Specialised {
     fn sound(hub: &[u32]) -> bool {
         let numbers = hub.numbers();
         accepted(&numbers) && hub.fits(&numbers) && FAULTS[numbers.vectors as usize - 1](&Parts::of(hub, &numbers)) == 0
@@ -87,17 +106,20 @@ fn faults<const VECTORS: usize>(parts: &Parts<'_>) -> u32 {
     let (low, high, data, control) = (own(parts.low), own(parts.high), own(parts.data), own(parts.control));
     let mut faults = 0;
     for ((((row, low), high), data), control) in parts.rows.iter().zip(low).zip(high).zip(data).zip(control) {
-        // All ones where the peer is not connected, so that every bit is fixed.
-        let away = u32::from(row[0] != 1).wrapping_neg();
-        for k in 0..PEER_WORDS {
-            faults |= row[k] & (FIXED[k] | away);
-        }
-        for v in 0..VECTORS {
-            let address = low[v] & (!ADDRESS_BITS | away);
-            // The mask bit is 1 at reset.
-            let mask = (control[v] ^ 1) & (!1 | away);
-            faults |= address | (high[v] | data[v]) & away | mask;
-        }
+        faults |= slot_faults(row, low, high, data, control);
     }
     faults
+}
+
+#[inline(always)]
+fn slot_faults(row: &[u32; PEER_WORDS], low: &[u32], high: &[u32], data: &[u32], control: &[u32]) -> u32 {
+    // All ones where the peer is not connected, so that every bit is fixed.
+    let away = u32::from(row[0] != 1).wrapping_neg();
+    let registers = (0..PEER_WORDS).fold(0, |faults, k| faults | row[k] & (FIXED[k] | away));
+    low.iter().zip(high).zip(data).zip(control).fold(registers, |faults, (((low, high), data), control)| {
+        let address = low & (!ADDRESS_BITS | away);
+        // The mask bit is 1 at reset.
+        let mask = (control ^ 1) & (!1 | away);
+        faults | address | (high | data) & away | mask
+    })
 }

@@ -10,7 +10,7 @@ use model::subject::Answer;
 
 use crate::device::{Device, Lending, perform_by};
 use crate::rules::{self, MEMORY_SPACE, Numbers, Registers};
-use crate::soundness::{Accumulating, EarlyExit, Soundness};
+use crate::soundness::{Accumulating, EarlyExit, Soundness, Specialised};
 use crate::state::{Form, Plain, State};
 
 /// The calls over a hub of form `F`, with the soundness test `T`.
@@ -22,6 +22,8 @@ pub type PlainStruct = Yardstick<Plain, EarlyExit>;
 pub type WordsEarlyExit = Yardstick<[u32], EarlyExit>;
 /// The library's words, with the faults gathered.
 pub type WordsAccumulating = Yardstick<[u32], Accumulating>;
+/// The same with a copy of the soundness test for each number of vectors: the fastest form found, and no straightforward one.
+pub type WordsSpecialised = Yardstick<[u32], Specialised>;
 
 /// The caller of an admitted call.
 struct Caller {

@@ -2,7 +2,7 @@
 //! size.
 
 use benchmark::device::{Compared, Device};
-use benchmark::yardstick::{PlainStruct, WordsAccumulating, WordsEarlyExit};
+use benchmark::yardstick::{PlainStruct, WordsAccumulating, WordsEarlyExit, WordsSpecialised};
 use ivshmem::{MAX_PEERS, MAX_VECTORS, Settings};
 use model::call::KINDS;
 use model::compare::{self, Pair};
@@ -27,6 +27,7 @@ fn words_with_early_exit_agree_with_the_model() {
 #[test]
 fn accumulating_words_agree_with_the_model() {
     agrees::<WordsAccumulating>(3);
+    agrees::<WordsSpecialised>(4);
 }
 
 fn agrees<D: Device>(seed: u64) {
