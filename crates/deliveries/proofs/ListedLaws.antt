@@ -8,7 +8,7 @@ use native.Mathlib.Omega.{arith}
 use lib.Dec.{eqb}
 use lib.ListN.{length, take, set, length-set, length-append, length-map, length-take}
 use lib.Seq.{length-take-le, take-suc-set}
-use Rattle.device.proofs.SizeLaws.{maxPeers-pos}
+use Rattle.device.proofs.SizeLaws.{maxPeers-pos, maxPeers-byte}
 use Rattle.device.specs.declared.Delivery.{Delivery}
 use Rattle.device.specs.declared.PeerId.{PeerId}
 use Rattle.device.specs.declared.Vector.{Vector}
@@ -22,8 +22,7 @@ use Rattle.deliveries.specs.Listed.{listed, Lists, Empty, ringBut}
 
 -- an id fits a byte of the list
 pub id-fits : (i : ℕ) → i < maxPeers → i < 2 ^ 8
-unfolding maxPeers
-id-fits i l = omega arith
+id-fits i l = omega (arith, maxPeers-byte)
 
 pub none-listed : (hub : Hub) (d : Deliveries) → d .count ≡ 0 → listed hub d ≡ []
 unfolding listed

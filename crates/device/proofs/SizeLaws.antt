@@ -7,6 +7,11 @@ pub maxPeers-small : maxPeers ≤ 2 ^ 16
 unfolding maxPeers
 maxPeers-small = omega arith
 
+-- an id fits a byte
+pub maxPeers-byte : maxPeers ≤ 2 ^ 8
+unfolding maxPeers
+maxPeers-byte = omega arith
+
 pub maxPeers-pos : 0 < maxPeers
 unfolding maxPeers
 maxPeers-pos = omega arith
