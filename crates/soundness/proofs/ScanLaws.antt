@@ -1,14 +1,13 @@
 -- Laws of specs/Scanned.antt: one peer more, with or without the end of a run, and the whole hub after the last. First the entries.
 use Prim.Native.Nat.{ℕ, suc, _+_, _-_, _≤_, _<_}
 use mathlib.Core.Bool.{Bool, true, false, cond, not, _&&_, _||_}
-use mathlib.Core.List.{List, [], _∷_}
-use mathlib.Core.Path.{_≡_, refl, sym, ap, ap₂, _∙_}
+use mathlib.Core.List.{List}
+use mathlib.Core.Path.{_≡_, refl, sym, ap, _∙_}
 use native.Mathlib.Numerals.{add-one}
 use native.Mathlib.Omega.{arith}
 use lib.Dec.{eqb}
-use borrow.Author.Tests.{eqb-true}
-use Rattle.common.proofs.TestLaws.{and-true, and-right, alike, every-true, by-equal, below-true, true-below, below-suc, below-add, below-ext, below-both}
-use Rattle.common.specs.Tests.{every, below}
+use Rattle.common.proofs.TestLaws.{by-equal, below-suc, below-add, below-ext, below-both}
+use Rattle.common.specs.Tests.{below}
 use Rattle.device.specs.declared.Entry.{Entry}
 use Rattle.device.specs.declared.Settings.{Settings}
 use Rattle.device.specs.Sound.{entryFixed, entryReset, peerSound, entrySound, slotSound}
@@ -17,7 +16,7 @@ use Rattle.words.specs.Layout.{hubOf, Known}
 use Rattle.words.specs.Runs.{runOf}
 use Rattle.soundness.specs.declared.whole.Peers.{Peers}
 use Rattle.soundness.specs.declared.whole.Scan.{Scan}
-use Rattle.soundness.specs.Scanned.{joined, absentSound, Seen, Scanned, Uniform, entriesSound, entriesFrom}
+use Rattle.soundness.specs.Scanned.{joined, Seen, Scanned, Uniform, entriesSound, entriesFrom}
 
 -- the test of a run's entries is each entry's own, where its peers are alike
 pub uniform-run : (ws : List ℕ) (from to : ℕ) (used : Bool) (t : Entry → Bool) → Uniform ws from to used
@@ -87,55 +86,6 @@ module _ (ws : List ℕ) where
   pub one-run : (n : ℕ) → entriesFrom (hubOf ws) 0 n ≡ below n (entriesSound (hubOf ws))
   unfolding below
   one-run n = run-tested ws 0 n (omega arith)
-
--- All entries have the fixed bits, and those of the absent are at reset.
-
-reset-fixed : (e : Entry) → entryReset e ≡ true → entryFixed e ≡ true
-unfolding entryReset entryFixed every
-reset-fixed e q =
-    let tests = eqb (e .low) 0 ∷ eqb (e .high) 0 ∷ eqb (e .payload) 0 ∷ eqb (e .control) 1 ∷ [] in
-    let low : e .low ≡ 0 = eqb-true _ _ (every-true tests q 0) in
-    let control : e .control ≡ 1 = eqb-true _ _ (every-true tests q 3) in
-    rw (low, control)
-
-module _ (ws : List ℕ) where
-  abbrev allFixed : ℕ → Bool
-  allFixed i = below (hubOf ws .settings .vectors) (λ v. entryFixed (entryAt (slotAt (hubOf ws) i) v))
-
-  both-parts : (i : ℕ) → (allFixed i && absentSound (hubOf ws) i) ≡ entriesSound (hubOf ws) i
-  unfolding absentSound entrySound
-  both-parts i = by (joined ws i)
-    where
-      n : ℕ
-      n = hubOf ws .settings .vectors
-
-      reset : ℕ → Bool
-      reset v = entryReset (entryAt (slotAt (hubOf ws) i) v)
-
-      by : (t : Bool)
-          → (allFixed i && cond t true (below n reset)) ≡ below n (λ v. cond t (entryFixed (entryAt (slotAt (hubOf ws) i) v)) (entryReset (entryAt (slotAt (hubOf ws) i) v)))
-      by true = and-true (allFixed i)
-      by false =
-          alike (allFixed i && below n reset) (below n reset)
-          (λ e. and-right (allFixed i) (below n reset) e)
-          (λ e. ap₂ (λ (a b : Bool). a && b) (true-below n _ (λ v h. reset-fixed _ (below-true n reset e v h))) e)
-
-  pub mostly : (n : ℕ) (t : Entry → Bool) → ((e : Entry) → t e ≡ entryFixed e)
-      → (runOf (hubOf ws) 0 n t && below n (absentSound (hubOf ws))) ≡ below n (entriesSound (hubOf ws))
-  unfolding runOf
-  mostly n t same =
-      let d : n - 0 ≡ n = omega arith in
-      let fixed : below (n - 0) (λ k. below (hubOf ws .settings .vectors) (λ v. t (entryAt (slotAt (hubOf ws) (0 + k)) v))) ≡ below n allFixed =
-      rw d (below-ext n _ allFixed (λ k h. below-ext (hubOf ws .settings .vectors) _ _ (λ v _. let z : 0 + k ≡ k = omega arith in rw z (same _)))) in
-      rw fixed (sym (below-both n allFixed (absentSound (hubOf ws))) ∙ below-ext n _ _ (λ k h. both-parts k))
-
-  -- one peer is a run too
-  pub one-peer : (i : ℕ) → runOf (hubOf ws) i (i + 1) entryReset ≡ below (hubOf ws .settings .vectors) (λ v. entryReset (entryAt (slotAt (hubOf ws) i) v))
-  unfolding runOf below
-  one-peer i =
-      let e : i + 1 - i ≡ 1 = omega arith in
-      let z : i + 0 ≡ i = omega arith in
-      rw (e, z)
 
 -- The registers.
 

@@ -1,12 +1,12 @@
 -- How far a pass over the peers has come, and what it has tested.
 use Prim.Native.Nat.{ℕ, _+_, _-_, _≤_, _<_}
-use mathlib.Core.Bool.{Bool, true, false, cond}
+use mathlib.Core.Bool.{Bool, true, false}
 use mathlib.Core.List.{List}
 use mathlib.Core.Path.{_≡_}
 use lib.Dec.{eqb}
 use Rattle.common.specs.Tests.{below}
 use Rattle.device.specs.declared.Settings.{Settings}
-use Rattle.device.specs.Sound.{entryReset, peerSound, entrySound}
+use Rattle.device.specs.Sound.{peerSound, entrySound}
 use Rattle.device.specs.World.{Hub, slotAt, entryAt}
 use Rattle.words.specs.Layout.{hubOf}
 use Rattle.soundness.specs.declared.whole.Peers.{Peers}
@@ -16,16 +16,10 @@ use Rattle.soundness.specs.declared.whole.Scan.{Scan}
 abbrev pub joined : List ℕ → ℕ → Bool
 joined ws k = eqb (slotAt (hubOf ws) k .peer .connected) 1
 
--- the entries of one peer
+-- the entries of one peer, and of the peers from one id up to another
 abbrev pub entriesSound : Hub → ℕ → Bool
 entriesSound hub i = below (hub .settings .vectors) (λ v. entrySound (slotAt hub i .peer) (entryAt (slotAt hub i) v))
 
--- those of a peer that is not connected hold reset values
-unfoldable pub absentSound : Hub → ℕ → Bool
-absentSound hub i =
-    cond (eqb (slotAt hub i .peer .connected) 1) true (below (hub .settings .vectors) (λ v. entryReset (entryAt (slotAt hub i) v)))
-
--- the entries of the peers from one id up to another
 unfoldable pub entriesFrom : Hub → (from to : ℕ) → Bool
 entriesFrom hub from to = below (to - from) (λ k. entriesSound hub (from + k))
 

@@ -2,12 +2,12 @@
 // together: in each column they stand in one run of words. Most hubs are one run, which is known once the peers are counted.
 use device::Settings;
 ghost use mathlib.Core.Path.{_≡_};
-ghost use Prim.Native.Nat.{_+_, _≤_, _<_};
+ghost use Prim.Native.Nat.{_+_, _≤_};
 ghost use Rattle.common.specs.Tests.{below};
 ghost use Rattle.device.specs.Sound;
 ghost use Rattle.device.specs.World.{slotAt};
 ghost use Rattle.words.specs.Layout.{hubOf, Known};
-ghost use Rattle.soundness.specs.Scanned.{Seen, Scanned, Uniform, entriesFrom, entriesSound, absentSound};
+ghost use Rattle.soundness.specs.Scanned.{Seen, Scanned, Uniform, entriesFrom, entriesSound};
 
 // The peers passed so far: whether their registers are sound, and how many are connected.
 struct Peers {
@@ -112,41 +112,6 @@ fn runs_sound(hub: &[u32], peers: usize) -> bool
     scan.ok & last
 }
 
-// The entries of one peer hold reset values where it is not connected.
-fn absent_sound(hub: &[u32], i: usize) -> bool
-    requires { ⌜ Known (now hub) i ⌝ }
-    ensures { λ r. ⌜ r ≡ absentSound (hubOf (now (hub .entry))) i ⌝ }
-{
-    if words::peer(hub, i).connected == 1 {
-        return true;
-    }
-    words::entries_reset(hub, i, i + 1)
-}
-
-fn all_absent_sound(hub: &[u32], peers: usize) -> bool
-    requires { ⌜ peers ≤ hubOf (now hub) .settings .peers ⌝ }
-    ensures { λ r. ⌜ r ≡ below peers (absentSound (hubOf (now (hub .entry)))) ⌝ }
-{
-    let mut ok = true;
-    let mut i = 0;
-    while i < peers {
-        ok = ok & absent_sound(hub, i);
-        i += 1;
-    }
-    ok
-}
-
-// Where few peers are missing: reset values have the fixed bits too, so all entries are tested for these at once.
-fn mostly_sound(hub: &[u32], peers: usize) -> bool
-    requires some { ⌜ 0 < peers ⌝ }
-    requires known { ⌜ peers ≤ hubOf (now hub) .settings .peers ⌝ }
-    ensures { λ r. ⌜ r ≡ below peers (entriesSound (hubOf (now (hub .entry)))) ⌝ }
-{
-    let fixed = words::entries_only(hub, 0, peers, 0xFFFFFFFC, 0x00000001);
-    let absent = all_absent_sound(hub, peers);
-    fixed & absent
-}
-
 // The entries of all peers, of which so many are connected.
 fn entries_sound(hub: &[u32], s: Settings, seen: Peers) -> bool
     requires same { ⌜ s ≡ hubOf (now hub) .settings ⌝ }
@@ -160,9 +125,6 @@ fn entries_sound(hub: &[u32], s: Settings, seen: Peers) -> bool
     }
     if connected == 0 {
         return run_sound(hub, 0, peers, false);
-    }
-    if peers / 2 < connected {
-        return mostly_sound(hub, peers);
     }
     runs_sound(hub, peers)
 }

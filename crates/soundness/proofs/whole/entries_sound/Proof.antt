@@ -1,6 +1,5 @@
--- `soundness::whole::entries_sound` meets its contract: one run where all peers are alike, else by how many are connected.
-use Prim.Native.Nat.{_≤_}
-use mathlib.Core.Path.{ap, _∙_}
+-- `soundness::whole::entries_sound` meets its contract: one run where all peers are alike, else run by run.
+use mathlib.Core.Path.{refl, ap, _∙_}
 use native.Mathlib.Omega.{arith}
 use borrow.Author.Needs.{needs}
 use Rattle.device.specs.declared.Settings.{Settings}
@@ -30,27 +29,13 @@ run-sound-requires-2 c κs =
 returns-2 : tie.Need-returns-2
 returns-2 c = c .run-sound2 .ensures ∙ one-run _ _
 
-mostly-sound-requires : tie.Need-mostly-sound-requires
-mostly-sound-requires c κs = (omega (arith, c .before .before .before .before .pre .1 .few), omega (arith, ap (λ (s : Settings). s .peers) (c .before .before .before .before .pre .0)))
+runs-sound-requires : tie.Need-runs-sound-requires
+runs-sound-requires c κs = omega (arith, ap (λ (s : Settings). s .peers) (c .before .before .before .pre .0))
 
 returns-3 : tie.Need-returns-3
 returns-3 c = search needs
 
-runs-sound-requires : tie.Need-runs-sound-requires
-runs-sound-requires c κs = omega (arith, ap (λ (s : Settings). s .peers) (c .before .before .before .before .pre .0))
-
-returns-4 : tie.Need-returns-4
-returns-4 c = search needs
-
 pub entries-sound-spec : {M : Type 1} → statement M
 entries-sound-spec =
     tie.close
-    (tie.spec
-    run-sound-requires
-    returns
-    run-sound-requires-2
-    returns-2
-    mostly-sound-requires
-    returns-3
-    runs-sound-requires
-    returns-4)
+    (tie.spec run-sound-requires returns run-sound-requires-2 returns-2 runs-sound-requires returns-3)
