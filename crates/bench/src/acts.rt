@@ -4,7 +4,7 @@ use super::kept;
 use super::kept::COPY_BYTES;
 use super::print;
 use super::state;
-use super::state::Hub;
+use super::state::MEMORY_WORDS;
 use hub::Served;
 
 fn named(name: &[u8], n: u64) {
@@ -29,29 +29,31 @@ fn end(same: bool) {
     print::text(b"\n");
 }
 
-pub fn configuration_write(hub: &mut Hub, id: u64, offset: u64, width: u64, value: u32) {
-    let before = *hub;
+pub fn configuration_write(hub: &mut [u32], id: u64, offset: u64, width: u64, value: u32) {
+    let mut before = [0u32; MEMORY_WORDS];
+    state::copy_words(hub, &mut before);
     let r = hub::configuration_write(hub, id, offset, width, value);
     print::text(b"configuration");
     access(id, offset, width, value);
     print::done(r);
-    end(state::same_words(&before, hub));
+    end(state::same_words(hub, &before));
 }
 
-pub fn msix_write(hub: &mut Hub, id: u64, offset: u64, width: u64, value: u32) {
-    let before = *hub;
+pub fn msix_write(hub: &mut [u32], id: u64, offset: u64, width: u64, value: u32) {
+    let mut before = [0u32; MEMORY_WORDS];
+    state::copy_words(hub, &mut before);
     let r = hub::msix_write(hub, id, offset, width, value);
     print::text(b"MSI-X");
     access(id, offset, width, value);
     print::done(r);
-    end(state::same_words(&before, hub));
+    end(state::same_words(hub, &before));
 }
 
-fn served(s: Served) {
+fn served(hub: &[u32], s: Served) {
     let reply = s.reply;
     let list = s.list;
     print::done(reply);
-    print::delivered(list);
+    print::delivered(hub, list);
 }
 
 // Whether the region is as it was.
@@ -60,7 +62,7 @@ fn same_region(region: &[u8], before: &[u8]) -> bool {
 }
 
 pub fn register_write(
-    hub: &mut Hub,
+    hub: &mut [u32],
     region: &mut [u8],
     records: u64,
     id: u64,
@@ -68,39 +70,42 @@ pub fn register_write(
     width: u64,
     value: u32,
 ) {
-    let words = *hub;
+    let mut words = [0u32; MEMORY_WORDS];
+    state::copy_words(hub, &mut words);
     let mut bytes = [0u8; COPY_BYTES];
     kept::copy_bytes(region, &mut bytes);
     let s = hub::register_write(hub, region, records, id, offset, width, value);
     print::text(b"register");
     access(id, offset, width, value);
-    served(s);
+    served(hub, s);
     let same = same_region(region, &bytes);
-    end(state::same_words(&words, hub) & same);
+    end(state::same_words(hub, &words) & same);
 }
 
-pub fn reset(hub: &mut Hub, region: &mut [u8], records: u64, id: u64) {
-    let words = *hub;
+pub fn reset(hub: &mut [u32], region: &mut [u8], records: u64, id: u64) {
+    let mut words = [0u32; MEMORY_WORDS];
+    state::copy_words(hub, &mut words);
     let mut bytes = [0u8; COPY_BYTES];
     kept::copy_bytes(region, &mut bytes);
     let s = hub::reset(hub, region, records, id);
     named(b"reset ", id);
     print::text(b": ");
-    served(s);
+    served(hub, s);
     let same = same_region(region, &bytes);
-    end(state::same_words(&words, hub) & same);
+    end(state::same_words(hub, &words) & same);
 }
 
-pub fn disconnect(hub: &mut Hub, region: &mut [u8], records: u64, id: u64) {
-    let words = *hub;
+pub fn disconnect(hub: &mut [u32], region: &mut [u8], records: u64, id: u64) {
+    let mut words = [0u32; MEMORY_WORDS];
+    state::copy_words(hub, &mut words);
     let mut bytes = [0u8; COPY_BYTES];
     kept::copy_bytes(region, &mut bytes);
     let s = hub::disconnect(hub, region, records, id);
     named(b"disconnect ", id);
     print::text(b": ");
-    served(s);
+    served(hub, s);
     let same = same_region(region, &bytes);
-    end(state::same_words(&words, hub) & same);
+    end(state::same_words(hub, &words) & same);
 }
 
 fn range(name: &[u8], id: u64, offset: u64, length: usize) {
@@ -123,7 +128,7 @@ fn contents(buffer: &[u8]) {
     }
 }
 
-pub fn load(hub: &Hub, region: &[u8], id: u64, offset: u64, buffer: &mut [u8]) {
+pub fn load(hub: &[u32], region: &[u8], id: u64, offset: u64, buffer: &mut [u8]) {
     state::fill_bytes(buffer, state::OLD_BYTE);
     let r = hub::load(hub, region, id, offset, buffer);
     range(b"load by ", id, offset, buffer.len());
@@ -148,7 +153,7 @@ fn between(region: &[u8], before: &[u8]) {
     print::text(b" changed\n");
 }
 
-pub fn store(hub: &Hub, region: &mut [u8], id: u64, offset: u64, stored: &[u8]) {
+pub fn store(hub: &[u32], region: &mut [u8], id: u64, offset: u64, stored: &[u8]) {
     let mut bytes = [0u8; COPY_BYTES];
     kept::copy_bytes(region, &mut bytes);
     let r = hub::store(hub, region, id, offset, stored);

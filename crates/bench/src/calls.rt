@@ -1,7 +1,9 @@
 // One call of the hub and the line of its answer.
+use super::places;
+use super::places::Column;
 use super::print;
 use super::state;
-use super::state::Hub;
+use super::state::MEMORY_WORDS;
 
 // The numbers of a set-up: N, V, S, R, O, base and the length of the region that is lent; then protocol type, subsystem vendor
 // and subsystem id.
@@ -32,10 +34,10 @@ fn numbers(n: Numbers) {
 
 // Whether the words and the region are zero, or hold what they held before the call.
 fn left(hub: &[u32], region: &[u8]) {
-    if state::all_words(hub, state::OLD_WORD) {
-        print::text(b", words kept");
-    } else if state::all_words(hub, 0) {
+    if state::all_words(hub, 0) {
         print::text(b", words zero");
+    } else if state::all_words(hub, state::OLD_WORD) {
+        print::text(b", words kept");
     } else {
         print::text(b", words set");
     }
@@ -48,12 +50,13 @@ fn left(hub: &[u32], region: &[u8]) {
     }
 }
 
-fn set_up_lent(hub: &mut [u32], region: &mut [u8], n: Numbers, ids: Ids) {
-    state::fill_words(hub, state::OLD_WORD);
-    state::fill_bytes(region, state::OLD_BYTE);
+// Over whatever the words hold.
+fn set_up_over(hub: &mut [u32], region: &mut [u8], n: Numbers, ids: Ids) {
+    let bytes = state::first_bytes(region, n[6] as usize);
+    state::fill_bytes(bytes, state::OLD_BYTE);
     let r = hub::set_up(
         hub,
-        region,
+        bytes,
         n[0],
         n[1],
         n[2],
@@ -66,29 +69,31 @@ fn set_up_lent(hub: &mut [u32], region: &mut [u8], n: Numbers, ids: Ids) {
     );
     numbers(n);
     named(b", ", hub.len() as u64);
-    named(b" words, ", region.len() as u64);
+    named(b" words, ", bytes.len() as u64);
     print::text(b" bytes: ");
     print::done(r);
-    left(hub, region);
+    left(hub, bytes);
 }
 
-// No case lends more words or bytes than there are.
-pub fn set_up(hub: &mut [u32], region: &mut [u8], n: Numbers, ids: Ids, words: usize) {
-    let bytes = n[6] as usize;
-    if words <= hub.len() {
-        if bytes <= region.len() {
-            set_up_lent(&mut hub[..words], &mut region[..bytes], n, ids);
-        }
-    }
+// Over words that may be a hub.
+pub fn set_up_again(hub: &mut [u32], region: &mut [u8], n: Numbers) {
+    print::text(b"again: ");
+    set_up_over(hub, region, n, [0, 0, 0]);
 }
 
-pub fn connect(hub: &mut Hub, id: u64) {
-    let before = *hub;
+pub fn set_up(hub: &mut [u32], region: &mut [u8], n: Numbers, ids: Ids) {
+    state::fill_words(hub, state::OLD_WORD);
+    set_up_over(hub, region, n, ids);
+}
+
+pub fn connect(hub: &mut [u32], id: u64) {
+    let mut before = [0u32; MEMORY_WORDS];
+    state::copy_words(hub, &mut before);
     let r = hub::connect(hub, id);
     named(b"connect ", id);
     print::text(b": ");
     print::done(r);
-    if state::same_words(&before, hub) {
+    if state::same_words(hub, &before) {
         print::text(b", words kept");
     }
     print::text(b"\n");
@@ -102,7 +107,7 @@ fn space_name(space: Space) {
     }
 }
 
-pub fn read(hub: &Hub, space: Space, id: u64, offset: u64, width: u64) {
+pub fn read(hub: &[u32], space: Space, id: u64, offset: u64, width: u64) {
     space_name(space);
     named(b" read by ", id);
     print::text(b" at ");
@@ -118,7 +123,7 @@ pub fn read(hub: &Hub, space: Space, id: u64, offset: u64, width: u64) {
     print::text(b"\n");
 }
 
-pub fn question(hub: &Hub, id: u64, offset: u64, length: u64) {
+pub fn question(hub: &[u32], id: u64, offset: u64, length: u64) {
     named(b"question by ", id);
     named(b" at ", offset);
     named(b" length ", length);
@@ -127,13 +132,35 @@ pub fn question(hub: &Hub, id: u64, offset: u64, length: u64) {
     print::text(b"\n");
 }
 
-// A word put into the hub by hand.
-pub fn made(hub: &mut Hub, name: &[u8], at: usize, w: u32) {
+// The name of an entry's word.
+fn entry(column: Column, id: u8, vector: u8) {
+    match column {
+        Column::Low => print::text(b"address low"),
+        Column::High => print::text(b"address high"),
+        Column::Payload => print::text(b"data"),
+        Column::Control => print::text(b"control"),
+    }
+    named(b" of ", id as u64);
+    named(b", vector ", vector as u64);
+}
+
+fn put(hub: &mut [u32], at: usize, w: u32) {
     state::put(hub, at, w);
-    print::text(name);
     print::text(b" made ");
     print::word(w as u64);
     print::text(b"h\n");
+}
+
+// A word put into the hub by hand.
+pub fn made(hub: &mut [u32], name: &[u8], at: usize, w: u32) {
+    print::text(name);
+    put(hub, at, w);
+}
+
+pub fn entry_made(hub: &mut [u32], column: Column, id: u8, vector: u8, w: u32) {
+    entry(column, id, vector);
+    let at = places::entry(hub, column, id, vector);
+    put(hub, at, w);
 }
 
 // The answers of every read of words that may be no hub.
@@ -148,38 +175,47 @@ fn every_read(hub: &[u32]) {
     print::section(hub::section_question(hub, 0, 0, 4));
 }
 
+// The same and a connect, and whether the words changed.
 fn every(hub: &mut [u32]) {
+    let mut before = [0u32; MEMORY_WORDS];
+    state::copy_words(hub, &mut before);
     let joining = hub::connect(hub, 1);
     print::text(b": connect ");
     print::done(joining);
     every_read(hub);
-}
-
-// The same, and whether the words changed.
-fn every_kept(hub: &mut Hub) {
-    let before = *hub;
-    every(hub);
-    if state::same_words(&before, hub) {
+    if state::same_words(hub, &before) {
         print::text(b", words kept");
     }
     print::text(b"\n");
 }
 
-// A copy of the hub with one word changed.
-pub fn changed(hub: &Hub, name: &[u8], at: usize, w: u32) {
-    let mut copy = *hub;
-    state::put(&mut copy, at, w);
-    print::text(name);
+fn replaced(hub: &[u32], at: usize, w: u32) {
+    let mut memory = [0u32; MEMORY_WORDS];
+    state::copy_words(hub, &mut memory);
+    let copy = state::first_words(&mut memory, hub.len());
+    state::put(copy, at, w);
     print::text(b" = ");
     print::word(w as u64);
     print::text(b"h");
-    every_kept(&mut copy);
+    every(copy);
+}
+
+// A copy of the hub with one word changed.
+pub fn changed(hub: &[u32], name: &[u8], at: usize, w: u32) {
+    print::text(name);
+    replaced(hub, at, w);
+}
+
+pub fn entry_changed(hub: &[u32], column: Column, id: u8, vector: u8, w: u32) {
+    entry(column, id, vector);
+    replaced(hub, places::entry(hub, column, id, vector), w);
 }
 
 // The first words of the hub, or the hub and more words.
-pub fn cut(hub: &Hub, words: &mut [u32]) {
-    state::copy_words(hub, words);
+pub fn cut(hub: &[u32], count: usize) {
+    let mut memory = [0u32; MEMORY_WORDS];
+    state::copy_words(hub, &mut memory);
+    let words = state::first_words(&mut memory, count);
     named(b"words: ", words.len() as u64);
     every(words);
-    print::text(b"\n");
 }

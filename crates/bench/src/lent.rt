@@ -5,7 +5,8 @@ use super::calls;
 use super::places;
 use super::print;
 use super::rings;
-use super::state::Hub;
+use super::rings::Hub;
+use super::state;
 use super::state::Region;
 
 fn lengths(bytes: usize, records: u64) {
@@ -156,6 +157,35 @@ fn enough(hub: &mut Hub, region: &mut Region) {
     acts::disconnect(hub, region, 0xFFFFFFFFFFFFFFFF, 1);
 }
 
+// Every call that changes something, on words of another number than those of the hub.
+fn changes(hub: &mut [u32], region: &mut Region) {
+    acts::configuration_write(hub, 0, 0x10, 4, 0x00001000);
+    acts::msix_write(hub, 0, 0x10, 4, 0x00000004);
+    acts::register_write(hub, region, 4, 0, 0x10, 4, 0x00000009);
+    acts::reset(hub, region, 4, 0);
+    acts::disconnect(hub, region, 4, 0);
+}
+
+// The same, a load and a store.
+fn every(hub: &mut [u32], region: &mut Region) {
+    print::number(hub.len() as u64);
+    print::text(b" words:\n");
+    changes(hub, region);
+    let mut buffer = [0u8; 4];
+    acts::load(hub, region, 0, 4096, &mut buffer);
+    acts::store(hub, region, 0, 4096, &[1, 2, 3, 4]);
+}
+
+// One word less than the hub has, and one more.
+fn other_words(hub: &Hub, region: &mut Region) {
+    let mut shorter = [0u32; places::FOUR_BY_TWO - 1];
+    state::copy_words(hub, &mut shorter);
+    every(&mut shorter, region);
+    let mut longer = [0u32; places::FOUR_BY_TWO + 1];
+    state::copy_words(hub, &mut longer);
+    every(&mut longer, region);
+}
+
 pub fn run(hub: &mut Hub, region: &mut Region) {
     rings::set_up(hub, region);
     rings::all_on(hub, region, 0, 0x40);
@@ -164,4 +194,5 @@ pub fn run(hub: &mut Hub, region: &mut Region) {
     wrong(hub, region);
     unsound(hub, region);
     enough(hub, region);
+    other_words(hub, region);
 }

@@ -3,7 +3,7 @@
 use super::calls;
 use super::calls::Space;
 use super::places;
-use super::state::Hub;
+use super::reads::Hub;
 use super::state::Region;
 
 // Peer 0 is connected, peer 1 is not, and there are two. The space ends at `end`.

@@ -151,17 +151,18 @@ fn delivery(d: Delivery) {
     text(b"h)");
 }
 
-// The deliveries of a call, in ring order.
-pub fn delivered(list: Deliveries) {
+// The deliveries of a call, in ring order, from the hub after it.
+pub fn delivered(hub: &[u32], list: Deliveries) {
     let count = list.count;
-    let records = list.records;
+    let vector = list.vector;
+    let targets = list.targets;
     if count > 0 {
         text(b", delivered");
     }
     let mut k = 0;
     while k < device::MAX_PEERS {
         if k < count {
-            delivery(records[k]);
+            delivery(deliveries::sent(hub, targets[k], vector));
         }
         k += 1;
     }

@@ -2,14 +2,16 @@
 use super::calls;
 use super::calls::Space;
 use super::places;
-use super::state::HUB_WORDS;
-use super::state::Hub;
+use super::places::Column;
 use super::state::Region;
+
+// Two peers and three vectors.
+pub type Hub = [u32; places::TWO_BY_THREE];
 
 // A hub whose numbers all differ.
 pub fn set_up(hub: &mut Hub, region: &mut Region) {
     let n = [2, 3, 4096, 8192, 12288, 0x12345678000, 36864];
-    calls::set_up(hub, region, n, [0x0201, 0x1234, 0x5678], HUB_WORDS);
+    calls::set_up(hub, region, n, [0x0201, 0x1234, 0x5678]);
 }
 
 fn configuration(hub: &Hub, id: u64, offset: u64, width: u64) {
@@ -157,29 +159,11 @@ fn registers(hub: &mut Hub) {
     register(hub, 1, 0xFFC);
 }
 
-// Where vector 1 of peer 1 stands in each column.
-const ENTRY: usize = places::ROW + 1;
-
 fn entry_made(hub: &mut Hub) {
-    calls::made(
-        hub,
-        b"address low of 1, vector 1",
-        places::LOW + ENTRY,
-        0xFEE0000C,
-    );
-    calls::made(
-        hub,
-        b"address high of 1, vector 1",
-        places::HIGH + ENTRY,
-        0x00000001,
-    );
-    calls::made(
-        hub,
-        b"data of 1, vector 1",
-        places::PAYLOAD + ENTRY,
-        0x00004043,
-    );
-    calls::made(hub, b"control of 1, vector 1", places::CONTROL + ENTRY, 0);
+    calls::entry_made(hub, Column::Low, 1, 1, 0xFEE0000C);
+    calls::entry_made(hub, Column::High, 1, 1, 0x00000001);
+    calls::entry_made(hub, Column::Payload, 1, 1, 0x00004043);
+    calls::entry_made(hub, Column::Control, 1, 1, 0);
 }
 
 // The hub has vectors 0 to 2. Last, all of Command but bit 1.

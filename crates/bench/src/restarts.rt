@@ -3,7 +3,7 @@ use super::acts;
 use super::calls;
 use super::calls::Space;
 use super::rings;
-use super::state::Hub;
+use super::rings::Hub;
 use super::state::Region;
 
 fn configuration(hub: &Hub, offset: u64) {

@@ -6,8 +6,13 @@ use super::calls;
 use super::calls::Space;
 use super::places;
 use super::print;
-use super::state::Hub;
 use super::state::Region;
+
+pub type Hub = [u32; places::FOUR_BY_TWO];
+
+type Eight = [u32; places::EIGHT_BY_FOUR];
+
+type Largest = [u32; words::MAX_HUB_WORDS];
 
 // Records enough for every hub.
 const RECORDS: u64 = device::MAX_PEERS as u64;
@@ -23,7 +28,13 @@ fn register(hub: &mut Hub, region: &mut Region, id: u64, offset: u64, value: u32
     acts::register_write(hub, region, 4, id, offset, 4, value);
 }
 
-pub fn interrupt(hub: &Hub, id: u64) {
+// Two State Table entries.
+fn load(hub: &[u32], region: &Region, id: u64, offset: u64) {
+    let mut buffer = [0u8; 8];
+    acts::load(hub, region, id, offset, &mut buffer);
+}
+
+pub fn interrupt(hub: &[u32], id: u64) {
     calls::read(hub, Space::Registers, id, 0x08, 4);
 }
 
@@ -37,13 +48,21 @@ fn switched(hub: &mut Hub, region: &mut Region, id: u64, payload: u32) {
     register(hub, region, id, 0x08, 1);
 }
 
-// The same in one line.
-pub fn all_on(hub: &mut Hub, region: &mut Region, id: u64, payload: u32) {
+fn function_on(hub: &mut [u32], id: u64) {
     hub::configuration_write(hub, id, 0x04, 2, 0x0006);
     hub::configuration_write(hub, id, 0x62, 2, 0x8000);
+}
+
+fn entry_on(hub: &mut [u32], id: u64, payload: u32) {
     hub::msix_write(hub, id, 0x00, 4, 0xFEE00000);
     hub::msix_write(hub, id, 0x08, 4, payload);
     hub::msix_write(hub, id, 0x0C, 4, 0);
+}
+
+// The same in one line, for a hub of any size.
+pub fn all_on(hub: &mut [u32], region: &mut Region, id: u64, payload: u32) {
+    function_on(hub, id);
+    entry_on(hub, id, payload);
     hub::register_write(hub, region, RECORDS, id, 0x08, 4, 1);
     print::text(b"all switches on at ");
     print::decimal(id);
@@ -59,8 +78,7 @@ fn whole_list(hub: &mut Hub, region: &mut Region) {
     configuration_write(hub, 3, 0x43, 1, 0x01);
     configuration_write(hub, 1, 0x04, 1, 0x02);
     register(hub, region, 1, 0x10, 5);
-    let mut buffer = [0u8; 8];
-    acts::load(hub, region, 1, 0, &mut buffer);
+    load(hub, region, 1, 0);
     interrupt(hub, 0);
     interrupt(hub, 1);
     interrupt(hub, 3);
@@ -165,13 +183,13 @@ fn others(hub: &mut Hub, region: &mut Region) {
     interrupt(hub, 3);
 }
 
-fn joined(hub: &mut Hub, region: &mut Region, id: u64, payload: u32) {
+fn joined(hub: &mut [u32], region: &mut Region, id: u64, payload: u32) {
     calls::connect(hub, id);
     all_on(hub, region, id, payload);
 }
 
 // Eight peers, each rung by the others.
-fn eight(hub: &mut Hub, region: &mut Region) {
+fn eight(hub: &mut Eight, region: &mut Region) {
     super::setups::set_up(hub, region, [8, 4, 4096, 0, 4096, 0, 36864]);
     joined(hub, region, 0, 0x40);
     joined(hub, region, 1, 0x41);
@@ -184,14 +202,13 @@ fn eight(hub: &mut Hub, region: &mut Region) {
     acts::register_write(hub, region, 8, 7, 0x10, 4, 0x01020304);
     acts::register_write(hub, region, 8, 3, 0x10, 4, 0x05060708);
     acts::register_write(hub, region, 8, 0, 0x0C, 4, 0x00070000);
-    let mut buffer = [0u8; 8];
-    acts::load(hub, region, 0, 8, &mut buffer);
-    acts::load(hub, region, 0, 24, &mut buffer);
-    acts::load(hub, region, 0, 32, &mut buffer);
+    load(hub, region, 0, 8);
+    load(hub, region, 0, 24);
+    load(hub, region, 0, 32);
 }
 
 // Sixty-four peers, each with data 100h + its id.
-fn all_joined(hub: &mut Hub, region: &mut Region) {
+fn all_joined(hub: &mut Largest, region: &mut Region) {
     let mut id = 0u32;
     while id < 64 {
         joined(hub, region, id as u64, 0x100 + id);
@@ -200,7 +217,7 @@ fn all_joined(hub: &mut Hub, region: &mut Region) {
 }
 
 // Rings at the last peer and of its last vector, and at what is one beyond.
-fn last(hub: &mut Hub, region: &mut Region) {
+fn last(hub: &mut Largest, region: &mut Region) {
     msix_write(hub, 63, 0xF0, 4, 0xFEE0F000);
     msix_write(hub, 63, 0xF8, 4, 0x0000023F);
     acts::register_write(hub, region, 64, 0, 0x0C, 4, 0x003F000F);
@@ -221,22 +238,21 @@ fn last(hub: &mut Hub, region: &mut Region) {
 }
 
 // The most peers with the most vectors: tables of 63 and of 64 records, all the others rung, and words that are one off.
-fn sixty_four(hub: &mut Hub, region: &mut Region) {
+fn sixty_four(hub: &mut Largest, region: &mut Region) {
     super::setups::set_up(hub, region, [64, 16, 4096, 32768, 0, 0, 36864]);
     all_joined(hub, region);
     acts::register_write(hub, region, 63, 63, 0x10, 4, 0x01020304);
     acts::register_write(hub, region, 64, 63, 0x10, 4, 0x01020304);
     acts::register_write(hub, region, 64, 31, 0x10, 4, 0x05060708);
     last(hub, region);
-    let mut buffer = [0u8; 8];
-    acts::load(hub, region, 0, 248, &mut buffer);
+    load(hub, region, 0, 248);
     calls::changed(hub, b"N", places::N, 63);
     calls::changed(hub, b"N", places::N, 65);
     calls::changed(hub, b"V", places::V, 17);
     acts::reset(hub, region, 63, 63);
     acts::reset(hub, region, 64, 63);
     acts::disconnect(hub, region, 64, 63);
-    acts::load(hub, region, 0, 248, &mut buffer);
+    load(hub, region, 0, 248);
 }
 
 pub fn run(hub: &mut Hub, region: &mut Region) {
@@ -246,6 +262,6 @@ pub fn run(hub: &mut Hub, region: &mut Region) {
     switches(hub, region);
     nobody(hub, region);
     others(hub, region);
-    eight(hub, region);
-    sixty_four(hub, region);
+    eight(&mut [0u32; places::EIGHT_BY_FOUR], region);
+    sixty_four(&mut [0u32; words::MAX_HUB_WORDS], region);
 }

@@ -1,8 +1,8 @@
 // Shared loads and stores. Command is 0, so that nothing is tied to it, until the last lines.
 use super::acts;
 use super::calls;
-use super::state::Hub;
 use super::state::Region;
+use super::writes::Hub;
 
 fn load(hub: &Hub, region: &Region, id: u64, offset: u64) {
     let mut buffer = [0u8; 4];

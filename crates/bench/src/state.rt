@@ -1,16 +1,14 @@
-// What the hub's words and the region hold before and after a call.
+// What the hub's words and the region hold before and after a call, and the parts of both that are lent.
+ghost use Prim.Native.Nat.{_≤_};
 
-pub const HUB_WORDS: usize = words::HUB_WORDS;
-
-// One word too few, and one too many.
-pub const SHORT_WORDS: usize = HUB_WORDS - 1;
-
-pub const LONG_WORDS: usize = HUB_WORDS + 1;
+// Room for the largest hub and one word too many.
+pub const MEMORY_WORDS: usize = words::MAX_HUB_WORDS + 1;
 
 pub const REGION_BYTES: usize = 36864;
 
-// Arrays, since their lengths need no proof when they are lent.
-pub type Hub = [u32; HUB_WORDS];
+// Arrays, since their lengths need no proof when they are lent. So each file's hub is an array too, of as many words as its set-up
+// asks for.
+pub type Memory = [u32; MEMORY_WORDS];
 
 pub type Region = [u8; REGION_BYTES];
 
@@ -57,39 +55,55 @@ pub fn all_words(hub: &[u32], w: u32) -> bool {
     true
 }
 
-pub fn same_words(a: &[u32], b: &[u32]) -> bool {
-    if a.len() != b.len() {
-        return false;
-    }
-    let mut k = 0;
-    while k < a.len() {
-        if a[k] != b[k] {
-            return false;
-        }
-        k += 1;
-    }
-    true
+fn smaller(a: usize, b: usize) -> usize
+    ensures { λ r. ⌜ r ≤ b ⌝ }
+{
+    if a < b { a } else { b }
 }
 
-fn word_or_zero(words: &[u32], k: usize) -> u32 {
+// So many words of those there are, or all, from the front.
+pub fn first_words(memory: &mut [u32], count: usize) -> &mut [u32] {
+    let n = smaller(count, memory.len());
+    &mut memory[..n]
+}
+
+pub fn first_bytes(region: &mut [u8], count: usize) -> &mut [u8] {
+    let n = smaller(count, region.len());
+    &mut region[..n]
+}
+
+// A word, or zero after the last.
+pub fn word(words: &[u32], k: usize) -> u32 {
     if k < words.len() {
         return words[k];
     }
     0
 }
 
-// As many words as there is room for, and zeros after the last.
+// One word replaced by hand, if it is there.
+pub fn put(words: &mut [u32], k: usize, w: u32) {
+    if k < words.len() {
+        words[k] = w;
+    }
+}
+
+// As many words as there is room for.
 pub fn copy_words(from: &[u32], to: &mut [u32]) {
     let mut k = 0;
-    while k < to.len() {
-        to[k] = word_or_zero(from, k);
+    while k < from.len() {
+        put(to, k, word(from, k));
         k += 1;
     }
 }
 
-// One word of the hub replaced by hand.
-pub fn put(hub: &mut Hub, k: usize, w: u32) {
-    if k < HUB_WORDS {
-        hub[k] = w;
+// Whether the words are as they were when they were copied.
+pub fn same_words(hub: &[u32], before: &[u32]) -> bool {
+    let mut k = 0;
+    while k < hub.len() {
+        if word(hub, k) != word(before, k) {
+            return false;
+        }
+        k += 1;
     }
+    true
 }

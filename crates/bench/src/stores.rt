@@ -2,8 +2,8 @@
 use super::acts;
 use super::calls;
 use super::calls::Space;
-use super::state::Hub;
 use super::state::Region;
+use super::writes::Hub;
 
 fn register(hub: &mut Hub, region: &mut Region, id: u64, offset: u64, value: u32) {
     acts::register_write(hub, region, 4, id, offset, 4, value);

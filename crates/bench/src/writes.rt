@@ -2,14 +2,15 @@
 use super::acts::configuration_write;
 use super::calls;
 use super::calls::Space;
-use super::state::HUB_WORDS;
-use super::state::Hub;
+use super::places;
 use super::state::Region;
+
+pub type Hub = [u32; places::FOUR_BY_TWO];
 
 // S, R and O are 1000h, 4000h and 1000h; the base is 123456000h.
 pub fn set_up(hub: &mut Hub, region: &mut Region) {
     let n = [4, 2, 4096, 16384, 4096, 0x123456000, 36864];
-    calls::set_up(hub, region, n, [0x0001, 0x1234, 0x5678], HUB_WORDS);
+    calls::set_up(hub, region, n, [0x0001, 0x1234, 0x5678]);
     calls::connect(hub, 0);
     calls::connect(hub, 1);
 }

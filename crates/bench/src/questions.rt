@@ -1,8 +1,10 @@
 // The section question: where each section starts and ends, and who may store there.
 use super::calls;
 use super::calls::question;
-use super::state::Hub;
+use super::places;
 use super::state::Region;
+
+type Hub = [u32; places::TWO_BY_ONE];
 
 // State Table 0 to 4095, R/W to 12287, output of 0 to 24575, output of 1 to 36863.
 fn inside(hub: &Hub) {
