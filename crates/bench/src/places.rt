@@ -1,7 +1,7 @@
 // Where the hub's words stand, for the cases that put a word there by hand. Peer i has eight words from PEERS + 8i. After the peers
 // come the entries, in four columns of N * V words each: the word of vector v of peer i is the one at i * V + v.
 use super::state;
-ghost use Prim.Native.Nat.{_^_, _<_, _≤_};
+ghost use Prim.Native.Nat.{_≤_};
 
 pub const N: usize = 0;
 
@@ -56,9 +56,17 @@ pub const FOUR_BY_TWO: usize = 10 + 8 * 4 + 4 * (4 * 2);
 
 pub const EIGHT_BY_FOUR: usize = 10 + 8 * 8 + 4 * (8 * 4);
 
-// How many words a hub has. Of more than 255 peers or vectors there is no hub, and the largest's are as good as any.
+// A product of small numbers, such as a hub has.
+fn times(a: usize, b: usize) -> usize
+    requires { ⌜ (a ≤ 255) × (b ≤ 255) ⌝ }
+    ensures { λ r. ⌜ r ≤ 65025 ⌝ }
+{
+    a * b
+}
+
+// How many words a hub has. Of more than 255 peers or vectors there is none, and the largest's words are as good as any.
 pub fn hub_words(peers: u64, vectors: u64) -> usize
-    ensures { λ r. ⌜ (10 ≤ r) × (r < 2 ^ 32) ⌝ }
+    ensures { λ r. ⌜ (10 ≤ r) × (r ≤ 1000000) ⌝ }
 {
     if 255 < peers {
         return words::MAX_HUB_WORDS;
@@ -66,30 +74,32 @@ pub fn hub_words(peers: u64, vectors: u64) -> usize
     if 255 < vectors {
         return words::MAX_HUB_WORDS;
     }
-    (10 + 8 * peers + 4 * (peers * vectors)) as usize
+    10 + 8 * (peers as usize) + 4 * times(peers as usize, vectors as usize)
 }
 
 // N or V, which are small in a sound hub.
 fn count(hub: &[u32], k: usize) -> usize
-    ensures { λ r. ⌜ r < 256 ⌝ }
+    ensures { λ r. ⌜ r ≤ 255 ⌝ }
 {
     (state::word(hub, k) % 256) as usize
 }
 
-fn index(column: Column) -> usize
-    ensures { λ r. ⌜ r < 256 ⌝ }
+// The words before a column, of as many columns of this size as come before it.
+fn before(column: Column, size: usize) -> usize
+    requires { ⌜ size ≤ 65025 ⌝ }
+    ensures { λ r. ⌜ r ≤ 195075 ⌝ }
 {
     match column {
         Column::Low => 0,
-        Column::High => 1,
-        Column::Payload => 2,
-        Column::Control => 3,
+        Column::High => size,
+        Column::Payload => 2 * size,
+        Column::Control => 3 * size,
     }
 }
 
-// Where an entry's word of a column stands. Ids and vectors of 8 bits, so that no product is too large.
+// Where an entry's word of a column stands.
 pub fn entry(hub: &[u32], column: Column, id: u8, vector: u8) -> usize {
     let n = count(hub, N);
     let m = count(hub, V);
-    PEERS + 8 * n + index(column) * (n * m) + (id as usize) * m + vector as usize
+    PEERS + 8 * n + before(column, times(n, m)) + times(id as usize, m) + vector as usize
 }

@@ -128,12 +128,12 @@ fn lengths(memory: &mut Memory, region: &mut Region) {
 }
 
 // Of other words than the numbers ask for.
-fn of_words(memory: &mut Memory, region: &mut Region, n: Numbers, count: usize) {
+fn of_words(memory: &mut [u32], region: &mut Region, n: Numbers, count: usize) {
     set_up(state::first_words(memory, count), region, n);
 }
 
 // One word too few, and one too many.
-fn one_off(memory: &mut Memory, region: &mut Region, n: Numbers) {
+fn one_off(memory: &mut [u32], region: &mut Region, n: Numbers) {
     let asked = places::hub_words(n[0], n[1]);
     of_words(memory, region, n, asked - 1);
     of_words(memory, region, n, asked + 1);
@@ -171,7 +171,7 @@ fn reads_by(hub: &[u32], id: u64) {
 
 // All bits of the three numbers that may be anything, seen by a peer. Then: the words that a refused set-up leaves are no hub, and
 // after an accepted one nobody is connected.
-fn afterwards(memory: &mut Memory, region: &mut Region) {
+fn afterwards(memory: &mut [u32], region: &mut Region) {
     let ids = [0xFFFF, 0xFFFF, 0xFFFF];
     let mut hub = [0u32; places::TWO_BY_ONE];
     calls::set_up(&mut hub, region, [2, 1, 4096, 0, 0, 0, 4096], ids);
@@ -189,7 +189,7 @@ fn afterwards(memory: &mut Memory, region: &mut Region) {
 }
 
 // A set-up over a hub of three peers and two vectors is refused: no hub is left, of neither size.
-fn refused_over(memory: &mut Memory, region: &mut Region, n: Numbers) {
+fn refused_over(memory: &mut [u32], region: &mut Region, n: Numbers) {
     let hub = set_up_asked(memory, region, [3, 2, 4096, 0, 0, 0, 4096]);
     calls::connect(hub, 2);
     calls::set_up_again(hub, region, n);
@@ -208,7 +208,7 @@ fn refused_again(memory: &mut Memory, region: &mut Region) {
 }
 
 // Another size over the same memory: as many words, more, fewer.
-fn other_sizes(memory: &mut Memory, region: &mut Region) {
+fn other_sizes(memory: &mut [u32], region: &mut Region) {
     let hub = set_up_asked(memory, region, [3, 2, 4096, 0, 0, 0, 4096]);
     calls::connect(hub, 2);
     calls::set_up_again(hub, region, [2, 4, 4096, 0, 0, 0, 4096]);
@@ -222,7 +222,7 @@ fn other_sizes(memory: &mut Memory, region: &mut Region) {
 }
 
 // What is left of the larger hub is no part of the smaller.
-fn smaller(memory: &mut Memory, region: &mut Region) {
+fn smaller(memory: &mut [u32], region: &mut Region) {
     let hub = state::first_words(memory, places::TWO_BY_ONE);
     calls::set_up_again(hub, region, [2, 1, 4096, 0, 0, 0, 4096]);
     calls::connect(hub, 3);

@@ -5,11 +5,11 @@ use Rattle.bench.proofs.print.delivered.Statement.{statement}
 use Rattle.bench.proofs.print.delivered.Tie as tie
 
 abbrev Inv-loop : tie.InvT-loop
-Inv-loop count records k₀ k = Unit
+Inv-loop hub count vector targets k₀ k = Unit
 
 -- any bound on the most peers serves
 abbrev μ-loop : tie.MeasureT-loop
-μ-loop count records k₀ k = 2 ^ 16 - k
+μ-loop hub count vector targets k₀ k = 2 ^ 16 - k
 
 slice-aggregate-text : tie.Need-slice-aggregate-text Inv-loop μ-loop
 slice-aggregate-text c = search needs
@@ -20,11 +20,11 @@ text-requires c κs = search needs
 loop-holds : tie.Need-loop-holds Inv-loop μ-loop
 loop-holds c = search needs
 
-mul-delivery : tie.Need-mul-delivery Inv-loop μ-loop
-mul-delivery c = search needs
+array-read-sent : tie.Need-array-read-sent Inv-loop μ-loop
+array-read-sent c = search needs
 
-array-copy-out-delivery : tie.Need-array-copy-out-delivery Inv-loop μ-loop
-array-copy-out-delivery c = search needs
+sent-requires : tie.Need-sent-requires Inv-loop μ-loop
+sent-requires c κs = search needs
 
 delivery-requires : tie.Need-delivery-requires Inv-loop μ-loop
 delivery-requires c κs = search needs
@@ -50,8 +50,8 @@ delivered-spec =
     slice-aggregate-text
     text-requires
     loop-holds
-    mul-delivery
-    array-copy-out-delivery
+    array-read-sent
+    sent-requires
     delivery-requires
     add-k
     loop-less

@@ -6,22 +6,22 @@ use Rattle.bench.proofs.setups.each.Statement.{statement}
 use Rattle.bench.proofs.setups.each.Tie as tie
 
 abbrev Inv-loop : tie.InvT-loop
-Inv-loop hub₀ region₀ rows k₀ hub region k = Unit
+Inv-loop memory₀ region₀ rows k₀ memory region k = Unit
 
 abbrev μ-loop : tie.MeasureT-loop
-μ-loop hub₀ region₀ rows k₀ hub region k = length rows - k
+μ-loop memory₀ region₀ rows k₀ memory region k = length rows - k
 
 loop-holds : tie.Need-loop-holds Inv-loop μ-loop
 loop-holds c = search needs
 
-mul-set-up : tie.Need-mul-set-up Inv-loop μ-loop
-mul-set-up c = search needs
+mul-one : tie.Need-mul-one Inv-loop μ-loop
+mul-one c = search needs
 
-shared-slice-copy-out-set-up : tie.Need-shared-slice-copy-out-set-up Inv-loop μ-loop
-shared-slice-copy-out-set-up c = search needs
+shared-slice-copy-out-one : tie.Need-shared-slice-copy-out-one Inv-loop μ-loop
+shared-slice-copy-out-one c = search needs
 
-set-up-requires : tie.Need-set-up-requires Inv-loop μ-loop
-set-up-requires c κs = search needs
+one-requires : tie.Need-one-requires Inv-loop μ-loop
+one-requires c κs = search needs
 
 add-k : tie.Need-add-k Inv-loop μ-loop
 add-k c = search needs
@@ -42,9 +42,9 @@ each-spec =
     Inv-loop
     μ-loop
     loop-holds
-    mul-set-up
-    shared-slice-copy-out-set-up
-    set-up-requires
+    mul-one
+    shared-slice-copy-out-one
+    one-requires
     add-k
     loop-less
     loop-again

@@ -10,19 +10,16 @@ abbrev Inv-loop : tie.InvT-loop
 Inv-loop from to₀ k₀ to k = length to ≡ length to₀
 
 abbrev μ-loop : tie.MeasureT-loop
-μ-loop from to₀ k₀ to k = length to₀ - k
+μ-loop from to₀ k₀ to k = length from - k
 
 loop-holds : tie.Need-loop-holds Inv-loop μ-loop
 loop-holds c = search needs
 
-word-or-zero-requires : tie.Need-word-or-zero-requires Inv-loop μ-loop
-word-or-zero-requires c κs = search needs
+word-requires : tie.Need-word-requires Inv-loop μ-loop
+word-requires c κs = search needs
 
-mul-to : tie.Need-mul-to Inv-loop μ-loop
-mul-to c = search needs
-
-slice-write-to : tie.Need-slice-write-to Inv-loop μ-loop
-slice-write-to c = search needs
+put-requires : tie.Need-put-requires Inv-loop μ-loop
+put-requires c κs = search needs
 
 add-k : tie.Need-add-k Inv-loop μ-loop
 add-k c = search needs
@@ -46,9 +43,8 @@ copy-words-spec =
     Inv-loop
     μ-loop
     loop-holds
-    word-or-zero-requires
-    mul-to
-    slice-write-to
+    word-requires
+    put-requires
     add-k
     loop-less
     loop-again
