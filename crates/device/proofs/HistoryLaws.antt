@@ -4,7 +4,6 @@ use Prim.Native.Nat.{ℕ, _-_, _/_, _%_, _^_, _<_}
 use mathlib.Core.Bool.{Bool, true, false, cond, _&&_}
 use mathlib.Core.List.{List, [], _∷_}
 use mathlib.Core.Path.{_≡_, refl, sym, ap, ap₂, subst, _∙_}
-use native.Mathlib.Nat.{le-trans}
 use native.Mathlib.Omega.{arith}
 use borrow.Author.Tests.{eqb-true, eq-eqb, ne-eqb, leb-false, not-false}
 use lib.Bits.{bitAnd}
@@ -27,7 +26,6 @@ use Rattle.device.specs.Refusal.{accessOf, missing, present, forbidden, 
 use Rattle.device.specs.Registers.{Register, registerAt, memoryOn}
 use Rattle.device.specs.Ring.{withInterrupt, afterDelivery}
 use Rattle.device.specs.SetUp.{accepted, total, freshHub}
-use Rattle.device.specs.Sizes.{maxPeers}
 use Rattle.device.specs.Sound.{slotSound, sound}
 use Rattle.device.specs.Step.{Outcome, runAll, effectIn, step}
 use Rattle.device.specs.Window.{memoryAfter, memoryBit, isAccepted}
@@ -35,7 +33,6 @@ use Rattle.device.specs.World.{Slot, World, zeroSlot, resetSlot, slotAt,
 use Rattle.device.proofs.ConfigurationLaws.{written-reads}
 use Rattle.device.proofs.FixedLaws.{written-fixed, written-connected}
 use Rattle.device.proofs.KeepingLaws.{Frame, frame, Every, Leaves, runAll-frame, runAll-keeps}
-use Rattle.device.proofs.SetUpLaws.{accepted-facts}
 use Rattle.device.proofs.SoundLaws.{used, absent-sound, present-sound, delivery-sound, peer-sound, msix-sound}
 use Rattle.device.proofs.StepLaws.{accepted-effect, refused-changes-nothing}
 

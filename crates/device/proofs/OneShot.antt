@@ -24,7 +24,6 @@ use Rattle.device.specs.Registers.{Register, registerAt, memoryOn}
 use Rattle.device.specs.SetUp.{accepted}
 use Rattle.device.specs.Sound.{peerFixed, peerReset, peerSound, slotSound}
 use Rattle.device.specs.Step.{Ran, Outcome, run, runAll, refused, done, effectIn, step}
-use Rattle.device.specs.Window.{isAccepted}
 use Rattle.device.specs.World.{Slot, World, zeroSlot, resetSlot, slotAt}
 use Rattle.device.proofs.FixedLaws.{fixed-facts}
 use Rattle.device.proofs.HistoryLaws.{Fit, start-fit, step-fit}

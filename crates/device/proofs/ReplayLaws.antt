@@ -18,7 +18,6 @@ use Rattle.device.specs.Refusal.{accessOf, missing, isConnected, refusal
 use Rattle.device.specs.Registers.{Register, registerAt, memoryOn}
 use Rattle.device.specs.Ring.{peerId, vector}
 use Rattle.device.specs.SetUp.{accepted}
-use Rattle.device.specs.Sizes.{maxPeers}
 use Rattle.device.specs.Sound.{sound}
 use Rattle.device.specs.Step.{Ran, ran, Outcome, refused, done, effectIn, run, runAll, stepBy, step}
 use Rattle.device.specs.Window.{Item, sentBy, sent}

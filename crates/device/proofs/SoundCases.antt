@@ -2,7 +2,7 @@
 -- set-up numbers would be accepted, bits that can't be written hold their fixed values, and unconnected or unused slots and vectors
 -- hold reset values'. So soundness itself is held to the rules, and not only the code to it. (Unused slots and vectors there are none.)
 use Prim.Native.Nat.{ℕ, _-_, _^_}
-use mathlib.Core.Bool.{Bool, true, not}
+use mathlib.Core.Bool.{true, not}
 use mathlib.Core.List.{List, [], _∷_, _++_, map}
 use mathlib.Core.Path.{_≡_, refl}
 use Rattle.common.specs.Tests.{every, below}

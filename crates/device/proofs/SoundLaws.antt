@@ -4,16 +4,15 @@ use Prim.Native.Nat.{ℕ, _<_}
 use mathlib.Core.Bool.{Bool, true, false, cond, _&&_}
 use mathlib.Core.List.{[], _∷_}
 use mathlib.Core.Path.{_≡_, refl, sym, ap₂, subst, _∙_}
-use native.Mathlib.Omega.{arith}
-use borrow.Author.Tests.{eqb-true, ltb-true, eq-eqb, lt-ltb}
+use borrow.Author.Tests.{eqb-true, ltb-true, eq-eqb}
 use lib.Bits.{bitAnd}
-use lib.Dec.{eqb, ltb}
+use lib.Dec.{eqb}
 use lib.ListN.{getD-replicate}
 use Rattle.common.specs.Bytes.{only}
 use Rattle.common.specs.Tests.{every, below}
 use Rattle.common.proofs.ListLaws.{getD-set}
 use Rattle.common.proofs.MaskLaws.{only-and}
-use Rattle.common.proofs.TestLaws.{and-left, and-right, and-false, every-true, below-true, true-below}
+use Rattle.common.proofs.TestLaws.{and-left, and-right, every-true, below-true, true-below}
 use Rattle.device.specs.declared.Entry.{Entry}
 use Rattle.device.specs.declared.Gate.{Gate}
 use Rattle.device.specs.declared.Peer.{Peer}

@@ -28,7 +28,6 @@ use Rattle.device.specs.Registers.{Register, registerAt, memoryOn}
 use Rattle.device.specs.Ring.{withInterrupt, afterDelivery}
 use Rattle.device.specs.Sections.{Section, outputs, sections, holds, sectionIn, sectionOf, mayStore}
 use Rattle.device.specs.SetUp.{accepted, total, freshHub}
-use Rattle.device.specs.Sizes.{maxPeers}
 use Rattle.device.specs.Sound.{peerReset, slotSound}
 use Rattle.device.specs.Step.{run, runAll, effectIn, step}
 use Rattle.device.specs.World.{Slot, World, zeroSlot, resetSlot, slotAt, withPeer}

@@ -1,5 +1,5 @@
 -- 'When the hub says no': the numbers of the table in their order, 10, 1, 2, 11, 3, 4 or 5, 6, 7, 8, 9. Number 1 is given at
--- set-up alone (SetUp).
+-- set-up alone, which is handed no hub and has its own order (SetUp).
 use Prim.Native.Nat.{ℕ, _+_, _%_}
 use mathlib.Core.Bool.{Bool, false, not, _||_}
 use mathlib.Core.List.{List, [], _∷_}

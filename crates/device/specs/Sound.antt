@@ -1,6 +1,5 @@
 -- 'Sound: the set-up numbers would be accepted, bits that can't be written hold their fixed values, and unconnected or unused
 -- slots and vectors hold reset values.'
-use Prim.Native.Nat.{ℕ}
 use mathlib.Core.Bool.{Bool, cond, _&&_}
 use mathlib.Core.List.{[], _∷_}
 use lib.Dec.{eqb}

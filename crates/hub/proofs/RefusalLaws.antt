@@ -15,7 +15,6 @@ use Rattle.device.specs.Sections.{sectionOf, somewhere}
 use Rattle.device.specs.SetUp.{total}
 use Rattle.device.specs.Sound.{sound}
 use Rattle.device.specs.World.{Hub, world}
-use Rattle.device.proofs.SetUpLaws.{accepted-facts}
 use Rattle.sections.proofs.OutputLaws.{held-fits}
 use Rattle.soundness.proofs.WholeLaws.{sound-numbers, sound-room}
 use Rattle.words.specs.Layout.{hubOf}

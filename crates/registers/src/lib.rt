@@ -8,7 +8,7 @@ ghost use Prim.Native.Nat.{_<_, _^_};
 ghost use lib.Bits.{bitAnd};
 ghost use Rattle.device.specs.Effect.{withState, stateValue, rungPeer, rungVector};
 ghost use Rattle.device.specs.Ring.{withInterrupt};
-ghost use Rattle.device.specs.Registers.{memoryOn, registerAt, registerValue, registerRead, unmapped};
+ghost use Rattle.device.specs.Registers.{memoryOn, registerAt, registerValue, registerRead};
 
 // What the register region and the MSI-X region read while Command bit 1 is off.
 pub const UNMAPPED: u64 = 0xFFFFFFFF;

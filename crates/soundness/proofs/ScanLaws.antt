@@ -1,11 +1,10 @@
 -- Laws of specs/Scanned.antt: one peer more, with or without the end of a run, and the whole hub after the last. First the entries.
-use Prim.Native.Nat.{ℕ, suc, _+_, _-_, _≤_, _<_}
+use Prim.Native.Nat.{ℕ, _+_, _-_, _≤_}
 use mathlib.Core.Bool.{Bool, true, false, cond, not, _&&_, _||_}
 use mathlib.Core.List.{List}
 use mathlib.Core.Path.{_≡_, refl, sym, ap, _∙_}
 use native.Mathlib.Numerals.{add-one}
 use native.Mathlib.Omega.{arith}
-use lib.Dec.{eqb}
 use Rattle.common.proofs.TestLaws.{by-equal, below-suc, below-add, below-ext, below-both}
 use Rattle.common.specs.Tests.{below}
 use Rattle.device.specs.declared.Entry.{Entry}

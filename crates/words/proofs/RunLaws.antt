@@ -1,13 +1,12 @@
 -- Laws of specs/Runs.antt: words collected one by one, and a run's words as the entries of its peers.
 use Prim.Native.Nat.{ℕ, _+_, _-_, _*_, _^_, _≤_, _<_}
 use mathlib.Core.Bool.{Bool, true, false, _&&_}
-use mathlib.Core.List.{List, [], _∷_}
-use mathlib.Core.Path.{_≡_, refl, sym, ap, _∙_}
+use mathlib.Core.List.{List}
+use mathlib.Core.Path.{_≡_, refl, ap, _∙_}
 use native.Mathlib.Nat.{add-mul, mul-le-mul, mul-le-mul-right}
 use native.Mathlib.Omega.{arith}
 use lib.Bits.{bitOr, bitXor}
 use lib.Dec.{eqb}
-use lib.ListN.{length}
 use Rattle.common.proofs.MaskLaws.{only-or, or-none, xor-none}
 use Rattle.common.proofs.TestLaws.{and-swap, below-rows, below-ext}
 use Rattle.common.specs.Bytes.{only}

@@ -1,13 +1,11 @@
 -- `hub::joining::joining_refusal` meets its contract: each test leads to its row.
 use mathlib.Core.Bool.{true, false}
 use mathlib.Core.Path.{_≡_, sym, _∙_}
-use native.Mathlib.Omega.{arith}
 use borrow.Author.Needs.{needs}
 use borrow.Author.Tests.{not-true, not-false, le-leb, lt-leb, eq-eqb, ne-eqb}
 use Rattle.common.specs.Tests.{first}
-use Rattle.device.proofs.SetUpLaws.{accepted-facts}
 use Rattle.device.specs.Sound.{sound}
-use Rattle.soundness.proofs.WholeLaws.{sound-numbers, sound-room}
+use Rattle.soundness.proofs.WholeLaws.{sound-room}
 use Rattle.words.specs.Layout.{hubOf}
 use Rattle.hub.proofs.RefusalLaws.{joining-facts}
 use Rattle.hub.proofs.joining.joining_refusal.Statement.{statement}

@@ -1,11 +1,9 @@
 -- `hub::refusals::admitted` meets its contract: each test leads to its row, and what passed before it leads past the rows before.
 use mathlib.Core.Bool.{true, false}
 use mathlib.Core.Path.{_≡_, sym, _∙_}
-use native.Mathlib.Omega.{arith}
 use borrow.Author.Needs.{needs}
 use borrow.Author.Tests.{not-true, not-false, le-leb, lt-leb, eq-eqb, ne-eqb}
 use Rattle.common.specs.Tests.{first}
-use Rattle.device.proofs.SetUpLaws.{accepted-facts}
 use Rattle.device.specs.Sound.{sound}
 use Rattle.soundness.proofs.WholeLaws.{sound-numbers, sound-room}
 use Rattle.words.specs.Layout.{hubOf}

@@ -1,5 +1,5 @@
 -- `soundness::whole::entries_sound` meets its contract: one run where all peers are alike, else run by run.
-use mathlib.Core.Path.{refl, ap, _∙_}
+use mathlib.Core.Path.{ap, _∙_}
 use native.Mathlib.Omega.{arith}
 use borrow.Author.Needs.{needs}
 use Rattle.device.specs.declared.Settings.{Settings}

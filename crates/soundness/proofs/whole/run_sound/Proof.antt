@@ -1,8 +1,6 @@
 -- `soundness::whole::run_sound` meets its contract: the peers of the run are alike, so one test serves all their entries.
 use mathlib.Core.Bool.{true, false}
 use mathlib.Core.Path.{refl, _∙_}
-use native.Mathlib.Omega.{arith}
-use borrow.Author.Needs.{needs}
 use Rattle.common.specs.Tests.{every}
 use Rattle.device.specs.Sound.{entryFixed}
 use Rattle.soundness.proofs.ScanLaws.{empty-run, uniform-run}

@@ -1,5 +1,4 @@
 -- `soundness::whole::see_peer` meets its contract: the definition's two cases are the code's.
-use mathlib.Core.Path.{_∙_}
 use native.Mathlib.Omega.{arith}
 use borrow.Author.Needs.{needs}
 use borrow.Author.Tests.{eq-eqb, ne-eqb}

@@ -1,5 +1,4 @@
 -- `soundness::whole::slots_sound` meets its contract: registers and entries are a slot's two parts.
-use mathlib.Core.Path.{_∙_}
 use borrow.Author.Needs.{needs}
 use Rattle.soundness.proofs.ScanLaws.{all-sound}
 use Rattle.soundness.proofs.whole.slots_sound.Statement.{statement}

@@ -1,8 +1,7 @@
 -- `words::entries::entry` meets its contract: the four places are those of the entry's columns.
 use native.Mathlib.Omega.{arith}
-use borrow.Author.Needs.{needs}
 use Rattle.words.proofs.IndexLaws.{entry-below}
-use Rattle.words.proofs.LayoutLaws.{Inside, known-inside, vectors-at, entry-read}
+use Rattle.words.proofs.LayoutLaws.{known-inside, vectors-at, entry-read}
 use Rattle.words.proofs.entries.entry.Statement.{statement}
 use Rattle.words.proofs.entries.entry.Tie as tie
 

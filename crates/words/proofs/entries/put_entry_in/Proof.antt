@@ -1,5 +1,4 @@
 -- `words::entries::put_entry_in` meets its contract: four words inside the hub, a column apart, are stored.
-use mathlib.Core.Path.{sym, _∙_}
 use native.Mathlib.Omega.{arith}
 use borrow.Author.Needs.{needs}
 use Rattle.words.proofs.IndexLaws.{row-below, entry-below}

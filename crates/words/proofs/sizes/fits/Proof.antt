@@ -1,5 +1,5 @@
 -- `words::sizes::fits` meets its contract: the code's tests are the definition's, one by one.
-use mathlib.Core.Path.{sym, _∙_}
+use mathlib.Core.Path.{sym}
 use native.Mathlib.Omega.{arith}
 use borrow.Author.Needs.{needs}
 use lib.ListN.{length}
