@@ -5,8 +5,12 @@ use super::log::Log;
 use super::print;
 use hub::Served;
 
-// Arrays, since their lengths need no proof when they are lent.
-pub const HUB_WORDS: usize = words::HUB_WORDS;
+const PEERS: u64 = 4;
+
+const VECTORS: u64 = 2;
+
+// As many words as the set-up asks for. Arrays, since their lengths need no proof when they are lent.
+pub const HUB_WORDS: usize = (10 + 8 * PEERS + 4 * (PEERS * VECTORS)) as usize;
 
 pub type Hub = [u32; HUB_WORDS];
 
@@ -26,11 +30,11 @@ pub const CARD: u64 = 3;
 const HOST: u64 = 4;
 
 // The records of the delivery table that would be lent.
-const RECORDS: u64 = 4;
+const RECORDS: u64 = PEERS;
 
 pub fn set_up(hub: &mut Hub, region: &mut Region, log: Log) -> Log {
     let next = log.begin(HOST, b"set up 4 peers with 2 vectors");
-    let r = hub::set_up(hub, region, 4, 2, 4096, 4096, 4096, 0, 1, 0, 0);
+    let r = hub::set_up(hub, region, PEERS, VECTORS, 4096, 4096, 4096, 0, 1, 0, 0);
     print::answered(r.number);
     next
 }
@@ -133,16 +137,16 @@ pub fn ask(hub: &Hub, log: Log, id: u64, what: &[u8], offset: u64) -> Log {
 }
 
 // The answer to a call that may ring, and its deliveries, which go into the log.
-fn served(log: Log, s: Served) -> Log {
+fn served(hub: &Hub, log: Log, s: Served) -> Log {
     let reply = s.reply;
     let list = s.list;
     print::served(reply.number, list);
-    log::with_all(log, list)
+    log::with_all(hub, log, list)
 }
 
 fn write(hub: &mut Hub, region: &mut Region, log: Log, id: u64, offset: u64, value: u32) -> Log {
     let s = hub::register_write(hub, region, RECORDS, id, offset, 4, value);
-    served(log, s)
+    served(hub, log, s)
 }
 
 // The customer presses 'order'.
@@ -168,11 +172,13 @@ pub fn rearm(hub: &mut Hub, region: &mut Region, log: Log) -> Log {
 pub fn reset(hub: &mut Hub, region: &mut Region, log: Log, id: u64) -> Log {
     let next = log.begin(HOST, b"reset ");
     print::name(id);
-    served(next, hub::reset(hub, region, RECORDS, id))
+    let s = hub::reset(hub, region, RECORDS, id);
+    served(hub, next, s)
 }
 
 pub fn disconnect(hub: &mut Hub, region: &mut Region, log: Log, id: u64) -> Log {
     let next = log.begin(HOST, b"disconnect ");
     print::name(id);
-    served(next, hub::disconnect(hub, region, RECORDS, id))
+    let s = hub::disconnect(hub, region, RECORDS, id);
+    served(hub, next, s)
 }

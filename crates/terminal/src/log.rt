@@ -16,10 +16,10 @@ pub struct Log {
 
 fn no_delivery() -> Delivery {
     Delivery {
-        target: PeerId(0),
-        vector: Vector(0),
         address: 0,
         payload: 0,
+        target: PeerId(0),
+        vector: Vector(0),
     }
 }
 
@@ -53,14 +53,16 @@ impl Log {
     }
 }
 
-pub fn with_all(log: Log, list: Deliveries) -> Log {
+// The deliveries of a call, from the hub after it.
+pub fn with_all(hub: &[u32], log: Log, list: Deliveries) -> Log {
     let count = list.count;
-    let records = list.records;
+    let vector = list.vector;
+    let targets = list.targets;
     let mut next = log;
     let mut k = 0;
     while k < device::MAX_PEERS {
         if k < count {
-            next = next.with(records[k]);
+            next = next.with(deliveries::sent(hub, targets[k], vector));
         }
         k += 1;
     }
@@ -72,13 +74,13 @@ fn is_to(d: Delivery, target: u64) -> bool {
     to.0 as u64 == target
 }
 
-fn counts(d: Delivery, target: u64, least: u32) -> bool {
+fn counts(d: Delivery, target: u64, least: u16) -> bool {
     let vector = d.vector;
     is_to(d, target) & (vector.0 >= least)
 }
 
 // How many deliveries a guest got, of the vectors from `least` on.
-pub fn got(log: Log, target: u64, least: u32) -> usize {
+pub fn got(log: Log, target: u64, least: u16) -> usize {
     let count = log.count;
     let records = log.records;
     let mut found = 0;

@@ -1,6 +1,7 @@
 // The parts of a line.
 use deliveries::Deliveries;
 use device::Delivery;
+use device::Vector;
 use libc::STDOUT_FILENO;
 
 pub fn text(s: &[u8]) {
@@ -97,10 +98,8 @@ pub fn loaded(number: u32, buffer: &[u8]) {
     text(b"\n");
 }
 
-fn delivery(d: Delivery) {
-    let target = d.target;
-    let vector = d.vector;
-    name(target.0 as u64);
+fn delivery(target: u8, vector: Vector) {
+    name(target as u64);
     text(b" vector ");
     decimal(vector.0 as u64);
 }
@@ -108,7 +107,8 @@ fn delivery(d: Delivery) {
 // The deliveries of a call, in ring order.
 fn delivered(list: Deliveries) {
     let count = list.count;
-    let records = list.records;
+    let vector = list.vector;
+    let targets = list.targets;
     if count == 0 {
         text(b"nothing");
     }
@@ -116,7 +116,7 @@ fn delivered(list: Deliveries) {
     while k < device::MAX_PEERS {
         if k < count {
             comma(k);
-            delivery(records[k]);
+            delivery(targets[k], vector);
         }
         k += 1;
     }

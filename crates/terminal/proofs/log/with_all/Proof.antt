@@ -5,20 +5,20 @@ use Rattle.terminal.proofs.log.with_all.Statement.{statement}
 use Rattle.terminal.proofs.log.with_all.Tie as tie
 
 abbrev Inv-loop : tie.InvT-loop
-Inv-loop count records next₀ k₀ next k = Unit
+Inv-loop hub count vector targets next₀ k₀ next k = Unit
 
 -- any bound on the most peers serves
 abbrev μ-loop : tie.MeasureT-loop
-μ-loop count records next₀ k₀ next k = 2 ^ 16 - k
+μ-loop hub count vector targets next₀ k₀ next k = 2 ^ 16 - k
 
 loop-holds : tie.Need-loop-holds Inv-loop μ-loop
 loop-holds c = search needs
 
-mul-with : tie.Need-mul-with Inv-loop μ-loop
-mul-with c = search needs
+array-read-sent : tie.Need-array-read-sent Inv-loop μ-loop
+array-read-sent c = search needs
 
-array-copy-out-with : tie.Need-array-copy-out-with Inv-loop μ-loop
-array-copy-out-with c = search needs
+sent-requires : tie.Need-sent-requires Inv-loop μ-loop
+sent-requires c κs = search needs
 
 with-requires : tie.Need-with-requires Inv-loop μ-loop
 with-requires c κs = search needs
@@ -42,8 +42,8 @@ with-all-spec =
     Inv-loop
     μ-loop
     loop-holds
-    mul-with
-    array-copy-out-with
+    array-read-sent
+    sent-requires
     with-requires
     add-k
     loop-less

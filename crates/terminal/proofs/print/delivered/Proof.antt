@@ -5,11 +5,11 @@ use Rattle.terminal.proofs.print.delivered.Statement.{statement}
 use Rattle.terminal.proofs.print.delivered.Tie as tie
 
 abbrev Inv-loop : tie.InvT-loop
-Inv-loop count records k₀ k = Unit
+Inv-loop count vector targets k₀ k = Unit
 
 -- any bound on the most peers serves
 abbrev μ-loop : tie.MeasureT-loop
-μ-loop count records k₀ k = 2 ^ 16 - k
+μ-loop count vector targets k₀ k = 2 ^ 16 - k
 
 slice-aggregate-text : tie.Need-slice-aggregate-text Inv-loop μ-loop
 slice-aggregate-text c = search needs
@@ -23,11 +23,8 @@ loop-holds c = search needs
 comma-requires : tie.Need-comma-requires Inv-loop μ-loop
 comma-requires c κs = search needs
 
-mul-delivery : tie.Need-mul-delivery Inv-loop μ-loop
-mul-delivery c = search needs
-
-array-copy-out-delivery : tie.Need-array-copy-out-delivery Inv-loop μ-loop
-array-copy-out-delivery c = search needs
+array-read-delivery : tie.Need-array-read-delivery Inv-loop μ-loop
+array-read-delivery c = search needs
 
 delivery-requires : tie.Need-delivery-requires Inv-loop μ-loop
 delivery-requires c κs = search needs
@@ -54,8 +51,7 @@ delivered-spec =
     text-requires
     loop-holds
     comma-requires
-    mul-delivery
-    array-copy-out-delivery
+    array-read-delivery
     delivery-requires
     add-k
     loop-less
