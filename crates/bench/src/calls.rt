@@ -50,7 +50,7 @@ fn left(hub: &[u32], region: &[u8]) {
     }
 }
 
-// Over whatever the words hold.
+// Over whatever the words hold; all of them are lent.
 fn set_up_over(hub: &mut [u32], region: &mut [u8], n: Numbers, ids: Ids) {
     let bytes = state::first_bytes(region, n[6] as usize);
     state::fill_bytes(bytes, state::OLD_BYTE);
@@ -86,6 +86,13 @@ pub fn set_up(hub: &mut [u32], region: &mut [u8], n: Numbers, ids: Ids) {
     set_up_over(hub, region, n, ids);
 }
 
+fn end(same: bool) {
+    if same {
+        print::text(b", words kept");
+    }
+    print::text(b"\n");
+}
+
 pub fn connect(hub: &mut [u32], id: u64) {
     let mut before = [0u32; MEMORY_WORDS];
     state::copy_words(hub, &mut before);
@@ -93,10 +100,7 @@ pub fn connect(hub: &mut [u32], id: u64) {
     named(b"connect ", id);
     print::text(b": ");
     print::done(r);
-    if state::same_words(hub, &before) {
-        print::text(b", words kept");
-    }
-    print::text(b"\n");
+    end(state::same_words(hub, &before));
 }
 
 fn space_name(space: Space) {
@@ -175,7 +179,7 @@ fn every_read(hub: &[u32]) {
     print::section(hub::section_question(hub, 0, 0, 4));
 }
 
-// The same and a connect, and whether the words changed.
+// A connect before them, and whether the words changed.
 fn every(hub: &mut [u32]) {
     let mut before = [0u32; MEMORY_WORDS];
     state::copy_words(hub, &mut before);
@@ -183,12 +187,10 @@ fn every(hub: &mut [u32]) {
     print::text(b": connect ");
     print::done(joining);
     every_read(hub);
-    if state::same_words(hub, &before) {
-        print::text(b", words kept");
-    }
-    print::text(b"\n");
+    end(state::same_words(hub, &before));
 }
 
+// A copy of the hub, in which one word is another.
 fn replaced(hub: &[u32], at: usize, w: u32) {
     let mut memory = [0u32; MEMORY_WORDS];
     state::copy_words(hub, &mut memory);
@@ -200,7 +202,6 @@ fn replaced(hub: &[u32], at: usize, w: u32) {
     every(copy);
 }
 
-// A copy of the hub with one word changed.
 pub fn changed(hub: &[u32], name: &[u8], at: usize, w: u32) {
     print::text(name);
     replaced(hub, at, w);

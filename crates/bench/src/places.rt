@@ -84,7 +84,7 @@ fn count(hub: &[u32], k: usize) -> usize
     (state::word(hub, k) % 256) as usize
 }
 
-// The words before a column, of as many columns of this size as come before it.
+// The words of the columns before this one.
 fn before(column: Column, size: usize) -> usize
     requires { ⌜ size ≤ 65025 ⌝ }
     ensures { λ r. ⌜ r ≤ 195075 ⌝ }

@@ -12,13 +12,14 @@ pub fn set_up(hub: &mut [u32], region: &mut Region, n: Numbers) {
     calls::set_up(hub, region, n, [0, 0, 0]);
 }
 
-// Of as many words as the numbers ask for.
+// Of as many words as the numbers ask for, which are handed back.
 fn set_up_asked<'a>(memory: &'a mut [u32], region: &mut Region, n: Numbers) -> &'a mut [u32] {
     let hub = state::first_words(memory, places::hub_words(n[0], n[1]));
     set_up(hub, region, n);
     hub
 }
 
+// For a loop, in which nothing is to be handed back.
 fn one(memory: &mut [u32], region: &mut Region, n: Numbers) {
     set_up_asked(memory, region, n);
 }
@@ -196,7 +197,7 @@ fn refused_over(memory: &mut [u32], region: &mut Region, n: Numbers) {
     calls::connect(hub, 2);
 }
 
-// 10 for a smaller hub and for the largest, 1, 2; then words that are zero and as many as no peers ask for.
+// 10 for a smaller hub and for the largest, 1, 2. Then words that, being zero, are as many as their N and V ask for.
 fn refused_again(memory: &mut Memory, region: &mut Region) {
     refused_over(memory, region, [2, 1, 4096, 0, 0, 0, 4096]);
     refused_over(memory, region, [64, 16, 4096, 0, 0, 0, 4096]);

@@ -27,8 +27,8 @@ fn sound(hub: &[u32]) {
     entry_changed(hub, Column::Control, 0, 0, 0);
 }
 
-// Numbers that a set-up would refuse. The region ends at the last address, so that no size can grow, nor N where O is not 0; the
-// most peers alone are tried with the rings.
+// Numbers that a set-up would refuse. The region ends at the last address, so that no size can grow. With another N or V the words
+// are not as many either; below they are.
 fn numbers(hub: &[u32]) {
     changed(hub, b"N", N, 0);
     changed(hub, b"N", N, 1);
