@@ -106,20 +106,34 @@ fn faults<const VECTORS: usize>(parts: &Parts<'_>) -> u32 {
     let (low, high, data, control) = (own(parts.low), own(parts.high), own(parts.data), own(parts.control));
     let mut faults = 0;
     for ((((row, low), high), data), control) in parts.rows.iter().zip(low).zip(high).zip(data).zip(control) {
-        faults |= slot_faults(row, low, high, data, control);
+        let away = every_bit(row[0] != 1);
+        for k in 0..PEER_WORDS {
+            faults |= row[k] & (FIXED[k] | away);
+        }
+        for v in 0..VECTORS {
+            faults |= entry_faults(low[v], high[v], data[v], control[v], away);
+        }
     }
     faults
 }
 
-#[inline(always)]
 fn slot_faults(row: &[u32; PEER_WORDS], low: &[u32], high: &[u32], data: &[u32], control: &[u32]) -> u32 {
-    // All ones where the peer is not connected, so that every bit is fixed.
-    let away = u32::from(row[0] != 1).wrapping_neg();
+    let away = every_bit(row[0] != 1);
     let registers = (0..PEER_WORDS).fold(0, |faults, k| faults | row[k] & (FIXED[k] | away));
-    low.iter().zip(high).zip(data).zip(control).fold(registers, |faults, (((low, high), data), control)| {
-        let address = low & (!ADDRESS_BITS | away);
-        // The mask bit is 1 at reset.
-        let mask = (control ^ 1) & (!1 | away);
-        faults | address | (high | data) & away | mask
+    let entries = low.iter().zip(high).zip(data).zip(control);
+    entries.fold(registers, |faults, (((&low, &high), &data), &control)| {
+        faults | entry_faults(low, high, data, control, away)
     })
+}
+
+/// The bits of an entry that are not as they must be; `away` is all ones where the peer is not connected, so that every bit is
+/// fixed.
+#[inline(always)]
+fn entry_faults(low: u32, high: u32, data: u32, control: u32, away: u32) -> u32 {
+    // The mask bit is 1 at reset.
+    low & (!ADDRESS_BITS | away) | (high | data) & away | (control ^ 1) & (!1 | away)
+}
+
+fn every_bit(set: bool) -> u32 {
+    u32::from(set).wrapping_neg()
 }
