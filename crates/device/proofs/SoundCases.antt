@@ -40,7 +40,7 @@ entry low high payload control = record { low = low; high = high; payload = payl
 
 -- two peers, two vectors
 abbrev two : Settings
-two = numbers 2 2 4096 0 0 0 0 0 0
+two = numbers 2 2 4096 0 0 0x40000000 0 0 0
 
 -- a connected peer and an entry with every bit set that can be written
 abbrev full : Peer
@@ -75,20 +75,20 @@ soundHubs =
 pub unaccepted : List Hub
 unaccepted =
     map (λ s. hub s present absent)
-    (numbers 1 2 4096 0 0 0 0 0 0
-    ∷ numbers 65 2 4096 0 0 0 0 0 0
-    ∷ numbers 2 0 4096 0 0 0 0 0 0
-    ∷ numbers 2 17 4096 0 0 0 0 0 0
-    ∷ numbers 2 2 0 0 0 0 0 0 0
-    ∷ numbers 2 2 4100 0 0 0 0 0 0
-    ∷ numbers 2 2 4096 1 0 0 0 0 0
-    ∷ numbers 2 2 4096 0 1 0 0 0 0
-    ∷ numbers 2 2 4096 (2 ^ 30) 0 0 0 0 0
-    ∷ numbers 2 2 4096 0 0 1 0 0 0
+    (numbers 1 2 4096 0 0 0x40000000 0 0 0
+    ∷ numbers 65 2 4096 0 0 0x40000000 0 0 0
+    ∷ numbers 2 0 4096 0 0 0x40000000 0 0 0
+    ∷ numbers 2 17 4096 0 0 0x40000000 0 0 0
+    ∷ numbers 2 2 0 0 0 0x40000000 0 0 0
+    ∷ numbers 2 2 4100 0 0 0x40000000 0 0 0
+    ∷ numbers 2 2 4096 1 0 0x40000000 0 0 0
+    ∷ numbers 2 2 4096 0 1 0x40000000 0 0 0
+    ∷ numbers 2 2 4096 (2 ^ 30) 0 0x40000000 0 0 0
+    ∷ numbers 2 2 4096 0 0 0x40000001 0 0 0
     ∷ numbers 2 2 8192 0 0 (2 ^ 64 - 4096) 0 0 0
-    ∷ numbers 2 2 4096 0 0 0 (2 ^ 16) 0 0
-    ∷ numbers 2 2 4096 0 0 0 0 (2 ^ 16) 0
-    ∷ numbers 2 2 4096 0 0 0 0 0 (2 ^ 16)
+    ∷ numbers 2 2 4096 0 0 0x40000000 (2 ^ 16) 0 0
+    ∷ numbers 2 2 4096 0 0 0x40000000 0 (2 ^ 16) 0
+    ∷ numbers 2 2 4096 0 0 0x40000000 0 0 (2 ^ 16)
     ∷ [])
 
 -- 'bits that can't be written hold their fixed values', of a connected peer, the first or the last
