@@ -151,7 +151,7 @@ fn delivery(d: Delivery) {
     text(b"h)");
 }
 
-// The deliveries of a call, in ring order, from the hub after it.
+// The deliveries of a call, in ring order, made from the hub that the call left.
 pub fn delivered(hub: &[u32], list: Deliveries) {
     let count = list.count;
     let vector = list.vector;

@@ -53,7 +53,7 @@ impl Log {
     }
 }
 
-// The deliveries of a call, from the hub after it.
+// The deliveries of a call, made from the hub that it left.
 pub fn with_all(hub: &[u32], log: Log, list: Deliveries) -> Log {
     let count = list.count;
     let vector = list.vector;
