@@ -3,7 +3,7 @@ use Prim.Native.Nat.{ℕ, zero, suc, _+_, _-_, _*_, _/_, _%_, _^_, _≤_, _<_}
 use mathlib.Core.Bool.{Bool, true, false}
 use mathlib.Core.List.{List, [], _∷_}
 use mathlib.Core.Path.{_≡_, refl, sym, ap, ap₂, _∙_}
-use native.Mathlib.Nat.{add-zero, not-suc-le-zero, le-trans}
+use native.Mathlib.Nat.{add-zero, zero-add, not-suc-le-zero, le-trans}
 use native.Mathlib.Omega.{arith}
 use borrow.Author.Tests.{eq-eqb, eqb-true, le-leb, leb-true, ltb-true, ltb-false}
 use lib.Dec.{ltb}
@@ -359,10 +359,10 @@ fresh-words {ws} {n} {m} s z settings zeros ones =
               ∙ tabulate-const m resetEntry) t;
         }
 
--- zero words, then the settings, then 1 in the last column: a hub with nobody connected
-pub fresh-put : (a b c : List ℕ) (s : Settings) (size : ℕ) → a ≡ replicate size 0 → Set a b s → length c ≡ length b
+-- 0 up to the last column, then the settings, then 1 in the last column: a hub with nobody connected
+pub fresh-put : (o a b c : List ℕ) (s : Settings) → Filled o a 0 0 (10 + 8 * s .peers + 3 * (s .peers * s .vectors)) → Set a b s → length c ≡ length b
     → Filled b c (10 + 8 * s .peers + 3 * (s .peers * s .vectors)) 1 (s .peers * s .vectors) → hubOf c ≡ freshHub s
-fresh-put a b c s size cleared put same filled =
+fresh-put o a b c s cleared put same filled =
     let y = fits-sized b (put .fits) in
     let n : word b 0 ≡ s .peers = sym (peers-at y) ∙ ap (λ (x : Settings). x .peers) (put .settings) in
     let m : word b 1 ≡ s .vectors = sym (vectors-at y) ∙ ap (λ (x : Settings). x .vectors) (put .settings) in
@@ -370,7 +370,7 @@ fresh-put a b c s size cleared put same filled =
     let x : Sized c (word b 0) (word b 1) = sized-kept y same (header 0 (omega arith)) (header 1 (omega arith)) in
     let z : Sized c (s .peers) (s .vectors) = rw (n, m) at x in
     fresh-words s z (settings-at z ∙ settings-same b c header ∙ sym (settings-at y) ∙ put .settings)
-    (λ k l h. filled .kept k (λ r q e. omega arith) ∙ put .kept k l ∙ ap (λ (ws : List ℕ). word ws k) cleared ∙ zero-word size k)
+    (λ k l h. filled .kept k (λ r q e. omega arith) ∙ put .kept k l ∙ rw (zero-add k) at (cleared .there k h))
     (filled .there)
 
 -- equal hubs in words that fit, all below 2^32, are the same words

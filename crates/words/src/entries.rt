@@ -15,6 +15,17 @@ pub fn entry_start(n: usize, m: usize, i: usize, v: usize) -> usize
     10 + 8 * n + (i * m + v)
 }
 
+// An entry of a hub whose numbers of peers and vectors are in hand, so that a loop reads them once.
+fn entry_in(hub: &[u32], n: usize, m: usize, i: usize, v: usize) -> Entry
+    requires numbers { ⌜ (n ≡ hubOf (now hub) .settings .peers) × (m ≡ hubOf (now hub) .settings .vectors) ⌝ }
+    requires known { ⌜ Known (now hub) i ⌝ }
+    requires vector { ⌜ KnownVector (now hub) v ⌝ }
+    ensures { λ r. ⌜ r ≡ entryAt (slotAt (hubOf (now (hub .entry))) i) v ⌝ }
+{
+    let at = entry_start(n, m, i, v);
+    super::parts::entry_from(hub, at, n * m)
+}
+
 pub fn entry(hub: &[u32], i: usize, v: usize) -> Entry
     requires known { ⌜ Known (now hub) i ⌝ }
     requires vector { ⌜ KnownVector (now hub) v ⌝ }
@@ -22,22 +33,17 @@ pub fn entry(hub: &[u32], i: usize, v: usize) -> Entry
 {
     let n = super::sizes::count(hub, 0);
     let m = super::sizes::count(hub, 1);
-    let at = entry_start(n, m, i, v);
-    super::parts::entry_from(hub, at, n * m)
+    entry_in(hub, n, m, i, v)
 }
 
-// The same for any words, id and vector: zeros where there is no such entry.
-pub fn entry_at(hub: &[u32], i: usize, v: usize) -> Entry
+// The same for any words, id and vector: zeros where there is no such entry. The numbers of peers and vectors are in hand.
+pub fn entry_at(hub: &[u32], n: usize, m: usize, i: usize, v: usize) -> Entry
+    requires { ⌜ (n ≡ hubOf (now hub) .settings .peers) × (m ≡ hubOf (now hub) .settings .vectors) ⌝ }
     ensures { λ r. ⌜ r ≡ entryAt (slotAt (hubOf (now (hub .entry))) i) v ⌝ }
 {
-    let sized = super::fits(hub);
-    if sized {
-        let n = super::sizes::count(hub, 0);
-        let m = super::sizes::count(hub, 1);
-        let there = (i < n) & (v < m);
-        if there {
-            return entry(hub, i, v);
-        }
+    let there = (i < n) & (v < m);
+    if there {
+        return entry_in(hub, n, m, i, v);
     }
     Entry {
         low: 0,

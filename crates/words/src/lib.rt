@@ -17,6 +17,8 @@ pub use header::put_settings;
 pub use header::settings;
 pub use peers::peer;
 pub use peers::put_peer;
+pub use sizes::Counts;
+pub use sizes::counts_of;
 pub use sizes::fits;
 pub use sizes::hub_words;
 pub use slots::put_fresh;

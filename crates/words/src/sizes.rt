@@ -3,8 +3,14 @@ ghost use mathlib.Core.Path.{_≡_};
 ghost use Prim.Native.Nat.{_≤_, _<_};
 ghost use lib.ListN.{length};
 ghost use Rattle.device.specs.Sizes.{maxPeers, maxVectors};
-ghost use Rattle.words.specs.Layout.{hubWords, word};
+ghost use Rattle.words.specs.Layout.{hubWords, hubOf, word};
 ghost use Rattle.words.specs.Layout;
+
+// A hub's numbers of peers and vectors.
+pub struct Counts {
+    pub peers: usize,
+    pub vectors: usize,
+}
 
 pub fn hub_words(peers: usize, vectors: usize) -> usize
     requires { ⌜ (peers ≤ maxPeers) × (vectors ≤ maxVectors) ⌝ }
@@ -37,4 +43,21 @@ pub fn fits(hub: &[u32]) -> bool
         return false;
     }
     hub.len() == hub_words(peers, vectors)
+}
+
+// None of both where the words are no hub.
+pub fn counts_of(hub: &[u32]) -> Counts
+    ensures { λ r. ⌜ (r .peers ≡ hubOf (now (hub .entry)) .settings .peers) × (r .vectors ≡ hubOf (now (hub .entry)) .settings .vectors) ⌝ }
+{
+    let sized = fits(hub);
+    if sized {
+        return Counts {
+            peers: count(hub, 0),
+            vectors: count(hub, 1),
+        };
+    }
+    Counts {
+        peers: 0,
+        vectors: 0,
+    }
 }

@@ -29,10 +29,10 @@ pub fn put_fresh(hub: &mut [u32], s: Settings)
     requires small { ⌜ Storable s ⌝ }
     ensures { λ r. ⌜ hubOf (now (hub .exit)) ≡ freshHub s ⌝ }
 {
-    put_zero(hub);
-    super::put_settings(hub, s);
     let size = s.peers as usize * s.vectors as usize;
     let start = 10 + 8 * s.peers as usize + 3 * size;
+    super::parts::fill(hub, 0, start, 0);
+    super::put_settings(hub, s);
     super::parts::fill(hub, start, size, Entry::CONTROL);
 }
 
