@@ -1,5 +1,7 @@
 // Refusal 10: the hub handed in is sound. The tests of a slot's parts, then of the whole hub.
+mod absent;
 mod parts;
+mod runs;
 mod setup;
 mod whole;
 

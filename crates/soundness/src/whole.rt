@@ -1,26 +1,20 @@
-// The whole hub: the registers of every peer, then the entries. Those of neighbours that are all connected, or all not, are tested
-// together: in each column they stand in one run of words. Most hubs are one run, which is known once the peers are counted.
+// The whole hub: the registers of every peer, collected by or and tested once, then the entries. Most hubs have all peers connected,
+// or none: then the entries are one run, which is known once the peers are counted. Where few are missing, all entries are tested
+// for their fixed bits, which reset values pass too, and the absent peers for reset values; else run by run.
+use device::Peer;
 use device::Settings;
 ghost use mathlib.Core.Path.{_≡_};
-ghost use Prim.Native.Nat.{_+_, _≤_};
+ghost use Prim.Native.Nat.{_+_};
 ghost use Rattle.common.specs.Tests.{below};
 ghost use Rattle.device.specs.Sound;
 ghost use Rattle.device.specs.World.{slotAt};
 ghost use Rattle.words.specs.Layout.{hubOf, Known};
-ghost use Rattle.soundness.specs.Scanned.{Seen, Scanned, Uniform, entriesFrom, entriesSound};
+ghost use Rattle.soundness.specs.Scanned.{Seen};
 
-// The peers passed so far: whether their registers are sound, and how many are connected.
+// The peers passed so far: their registers together, and how many are connected.
 struct Peers {
-    ok: bool,
+    all: Peer,
     connected: usize,
-}
-
-// The peers passed so far: whether the entries of all but the last run are sound, where that run begins, and whether its peers are
-// connected.
-struct Scan {
-    ok: bool,
-    from: usize,
-    used: bool,
 }
 
 fn see_peer(hub: &[u32], s: Settings, i: usize, seen: Peers) -> Peers
@@ -29,14 +23,15 @@ fn see_peer(hub: &[u32], s: Settings, i: usize, seen: Peers) -> Peers
     ensures { λ r. ⌜ Seen (now (hub .entry)) s (i + 1) r ⌝ }
 {
     let p = words::peer(hub, i);
+    let all = super::parts::together(seen.all, p);
     if p.connected == 1 {
         return Peers {
-            ok: seen.ok & super::parts::peer_fixed(s, p),
+            all,
             connected: seen.connected + 1,
         };
     }
     Peers {
-        ok: seen.ok & super::parts::peer_reset(p),
+        all,
         connected: seen.connected,
     }
 }
@@ -47,7 +42,7 @@ fn see_peers(hub: &[u32], s: Settings) -> Peers
 {
     let peers = s.peers as usize;
     let mut seen = Peers {
-        ok: true,
+        all: Peer::reset(0),
         connected: 0,
     };
     let mut i = 0;
@@ -58,84 +53,40 @@ fn see_peers(hub: &[u32], s: Settings) -> Peers
     seen
 }
 
-fn run_sound(hub: &[u32], from: usize, to: usize, used: bool) -> bool
-    requires { ⌜ Uniform (now hub) from to used ⌝ }
-    ensures { λ r. ⌜ r ≡ entriesFrom (hubOf (now (hub .entry))) from to ⌝ }
-{
-    if to <= from {
-        return true;
-    }
-    if used {
-        return words::entries_only(hub, from, to, 0xFFFFFFFC, 0x00000001);
-    }
-    words::entries_reset(hub, from, to)
-}
-
-// One peer more. Where it ends the run, the run's entries are tested.
-fn scan_peer(hub: &[u32], i: usize, scan: Scan) -> Scan
-    requires known { ⌜ Known (now hub) i ⌝ }
-    requires passed { ⌜ Scanned (now hub) i scan ⌝ }
-    ensures { λ r. ⌜ Scanned (now (hub .entry)) (i + 1) r ⌝ }
-{
-    let used = words::peer(hub, i).connected == 1;
-    let changed = (used & !scan.used) | (!used & scan.used);
-    if changed {
-        let run = run_sound(hub, scan.from, i, scan.used);
-        return Scan {
-            ok: scan.ok & run,
-            from: i,
-            used,
-        };
-    }
-    Scan {
-        ok: scan.ok,
-        from: scan.from,
-        used,
-    }
-}
-
-fn runs_sound(hub: &[u32], peers: usize) -> bool
-    requires { ⌜ peers ≤ hubOf (now hub) .settings .peers ⌝ }
-    ensures { λ r. ⌜ r ≡ below peers (entriesSound (hubOf (now (hub .entry)))) ⌝ }
-{
-    let mut scan = Scan {
-        ok: true,
-        from: 0,
-        used: true,
-    };
-    let mut i = 0;
-    while i < peers {
-        scan = scan_peer(hub, i, scan);
-        i += 1;
-    }
-    let last = run_sound(hub, scan.from, peers, scan.used);
-    scan.ok & last
-}
-
-// The entries of all peers, of which so many are connected.
-fn entries_sound(hub: &[u32], s: Settings, seen: Peers) -> bool
+// Some peers are connected, and some are not.
+fn mixed_sound(hub: &[u32], s: Settings, seen: Peers) -> bool
     requires same { ⌜ s ≡ hubOf (now hub) .settings ⌝ }
     requires passed { ⌜ Seen (now hub) s (s .peers) seen ⌝ }
-    ensures { λ r. ⌜ r ≡ below (s .peers) (entriesSound (hubOf (now (hub .entry)))) ⌝ }
+    requires mixed { ⌜ (seen .connected ≡ s .peers → ⊥) ⌝ }
+    ensures { λ r. ⌜ r ≡ below (s .peers) (λ i. Sound.slotSound s (slotAt (hubOf (now (hub .entry))) i)) ⌝ }
 {
     let peers = s.peers as usize;
-    let connected = seen.connected;
-    if connected == peers {
-        return run_sound(hub, 0, peers, true);
+    let fixed = super::parts::peer_fixed(s, seen.all);
+    if peers <= 2 * seen.connected {
+        let entries = super::runs::entries_fixed(hub, 0, peers);
+        let absent = super::absent::absent_sound(hub, peers);
+        return fixed & entries & absent;
     }
-    if connected == 0 {
-        return run_sound(hub, 0, peers, false);
-    }
-    runs_sound(hub, peers)
+    let runs = super::runs::runs_sound(hub, peers);
+    fixed & runs
 }
 
 fn slots_sound(hub: &[u32], s: Settings) -> bool
     requires { ⌜ s ≡ hubOf (now hub) .settings ⌝ }
     ensures { λ r. ⌜ r ≡ below (s .peers) (λ i. Sound.slotSound s (slotAt (hubOf (now (hub .entry))) i)) ⌝ }
 {
+    let peers = s.peers as usize;
     let seen = see_peers(hub, s);
-    let entries = entries_sound(hub, s, seen);
-    seen.ok & entries
+    let connected = seen.connected;
+    if connected == peers {
+        let entries = super::runs::run_sound(hub, 0, peers, true);
+        return super::parts::peer_fixed(s, seen.all) & entries;
+    }
+    if connected == 0 {
+        let entries = super::runs::run_sound(hub, 0, peers, false);
+        return super::parts::peer_reset(seen.all) & entries;
+    }
+    mixed_sound(hub, s, seen)
 }
 
 pub fn sound(hub: &[u32]) -> bool

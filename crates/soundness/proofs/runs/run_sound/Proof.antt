@@ -1,21 +1,18 @@
--- `soundness::whole::run_sound` meets its contract: the peers of the run are alike, so one test serves all their entries.
+-- `soundness::runs::run_sound` meets its contract: the peers of the run are alike, so one test serves all their entries.
 use mathlib.Core.Bool.{true, false}
 use mathlib.Core.Path.{refl, _∙_}
-use Rattle.common.specs.Tests.{every}
-use Rattle.device.specs.Sound.{entryFixed}
 use Rattle.soundness.proofs.ScanLaws.{empty-run, uniform-run}
-use Rattle.soundness.proofs.whole.run_sound.Statement.{statement}
-use Rattle.soundness.proofs.whole.run_sound.Tie as tie
+use Rattle.soundness.proofs.runs.run_sound.Statement.{statement}
+use Rattle.soundness.proofs.runs.run_sound.Tie as tie
 
 returns : tie.Need-returns
 returns c = empty-run _ _ _ (c .if1 .taken)
 
-entries-only-requires : tie.Need-entries-only-requires
-entries-only-requires c κs = record { some = c .before .if1 .left; known = c .before .before .before .pre .known }
+entries-fixed-requires : tie.Need-entries-fixed-requires
+entries-fixed-requires c κs = record { some = c .before .if1 .left; known = c .before .before .before .pre .known }
 
 returns-2 : tie.Need-returns-2
-unfolding entryFixed every
-returns-2 c = c .entries-only .ensures ∙ uniform-run _ _ _ true _ (rw (c .before .if2 .taken) at (c .before .before .before .before .pre)) (λ e. refl)
+returns-2 c = c .entries-fixed .ensures ∙ uniform-run _ _ _ true _ (rw (c .before .if2 .taken) at (c .before .before .before .before .pre)) (λ e. refl)
 
 entries-reset-requires : tie.Need-entries-reset-requires
 entries-reset-requires c κs = record { some = c .before .if1 .left; known = c .before .before .before .pre .known }
@@ -26,4 +23,4 @@ returns-3 c = c .entries-reset .ensures ∙ uniform-run _ _ _ false _ (rw (c .be
 pub run-sound-spec : {M : Type 1} → statement M
 run-sound-spec =
     tie.close
-    (tie.spec returns entries-only-requires returns-2 entries-reset-requires returns-3)
+    (tie.spec returns entries-fixed-requires returns-2 entries-reset-requires returns-3)

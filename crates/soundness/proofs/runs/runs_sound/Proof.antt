@@ -1,11 +1,11 @@
--- `soundness::whole::runs_sound` meets its contract. The loop's invariant: the peers passed have been scanned.
+-- `soundness::runs::runs_sound` meets its contract. The loop's invariant: the peers passed have been scanned.
 use Prim.Native.Nat.{_-_, _≤_}
 use mathlib.Core.Path.{_≡_}
 use native.Mathlib.Omega.{arith}
 use Rattle.soundness.specs.Scanned.{Scanned}
 use Rattle.soundness.proofs.ScanLaws.{scan-first, scan-last}
-use Rattle.soundness.proofs.whole.runs_sound.Statement.{statement}
-use Rattle.soundness.proofs.whole.runs_sound.Tie as tie
+use Rattle.soundness.proofs.runs.runs_sound.Statement.{statement}
+use Rattle.soundness.proofs.runs.runs_sound.Tie as tie
 
 abbrev Inv-loop : tie.InvT-loop
 Inv-loop hub peers scan₀ i₀ scan i = (i ≤ peers) × Scanned hub i scan

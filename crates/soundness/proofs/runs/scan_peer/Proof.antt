@@ -1,22 +1,27 @@
--- `soundness::whole::scan_peer` meets its contract: the run goes on, or ends and another begins.
+-- `soundness::runs::scan_peer` meets its contract: the run goes on, or ends and another begins.
 use borrow.Author.Needs.{needs}
 use Rattle.soundness.proofs.ScanLaws.{unchanged, scan-same, scan-changed}
-use Rattle.soundness.proofs.whole.scan_peer.Statement.{statement}
-use Rattle.soundness.proofs.whole.scan_peer.Tie as tie
+use Rattle.soundness.proofs.runs.scan_peer.Statement.{statement}
+use Rattle.soundness.proofs.runs.scan_peer.Tie as tie
 
 peer-requires : tie.Need-peer-requires
 peer-requires c κs = search needs
 
+peer-reset-requires : tie.Need-peer-reset-requires
+peer-reset-requires c κs = search needs
+
 run-sound-requires : tie.Need-run-sound-requires
-run-sound-requires c κs = c .before .before .before .before .before .before .pre .1 .run
+run-sound-requires c κs = c .before .before .before .before .before .before .before .before .pre .1 .run
 
 returns : tie.Need-returns
-returns c = scan-changed _ _ _ (c .before .before .before .before .before .before .before .before .pre .0) (c .before .before .before .before .before .before .before .before .pre .1) _ _ (rw (c .before .run-sound .ensures)) (rw (c .before .before .before .before .before .before .peer .ensures))
+returns c =
+    scan-changed _ _ _ (c .before .before .before .before .before .before .before .before .before .pre .0) (c .before .before .before .before .before .before .before .before .before .pre .1) _ _ (rw (c .run-sound .ensures, c .before .before .before .before .before .peer-reset .ensures, c .before .before .before .before .before .before .before .peer .ensures)) (rw (c .before .before .before .before .before .before .before .peer .ensures))
 
 returns-2 : tie.Need-returns-2
-returns-2 c = scan-same _ _ _ (c .before .before .before .before .before .before .pre .0) (c .before .before .before .before .before .before .pre .1) _ (rw (c .before .before .before .before .peer .ensures)) (unchanged _ _ (c .if1 .left))
+returns-2 c =
+    scan-same _ _ _ (c .before .before .before .before .before .before .before .before .pre .0) (c .before .before .before .before .before .before .before .before .pre .1) _ _ (rw (c .before .before .before .before .peer-reset .ensures, c .before .before .before .before .before .before .peer .ensures)) (rw (c .before .before .before .before .before .before .peer .ensures)) (unchanged _ _ (c .if1 .left))
 
 pub scan-peer-spec : {M : Type 1} → statement M
 scan-peer-spec =
     tie.close
-    (tie.spec peer-requires run-sound-requires returns returns-2)
+    (tie.spec peer-requires peer-reset-requires run-sound-requires returns returns-2)

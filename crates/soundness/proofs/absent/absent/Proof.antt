@@ -1,0 +1,17 @@
+-- `soundness::absent::absent` meets its contract: the words have a peer of each id below the end.
+use native.Mathlib.Omega.{arith}
+use Rattle.soundness.proofs.AbsentLaws.{tells-outside, tells-absent}
+use Rattle.soundness.proofs.absent.absent.Statement.{statement}
+use Rattle.soundness.proofs.absent.absent.Tie as tie
+
+returns : tie.Need-returns
+returns c = tells-outside _ _ _ _ (c .if1 .taken)
+
+peer-requires : tie.Need-peer-requires
+peer-requires c κs = omega (arith, c .before .before .pre)
+
+returns-2 : tie.Need-returns-2
+returns-2 c = rw (c .before .peer .ensures) (tells-absent _ _ _ (c .before .before .if1 .left))
+
+pub absent-spec : {M : Type 1} → statement M
+absent-spec = tie.close (tie.spec returns peer-requires returns-2)
