@@ -1,7 +1,7 @@
 -- Laws of one ring: what a target tells, what one ring leaves, and that a ring keeps the settings and the MSI-X entries and
 -- delivers at most one interrupt.
 use Prim.Native.Nat.{ℕ, _≤_, _<_}
-use mathlib.Core.Bool.{Bool, true, false, cond, not, _&&_}
+use mathlib.Core.Bool.{Bool, true, false, cond, not, _&&_, Bool·not-not}
 use mathlib.Core.List.{List, [], _∷_}
 use mathlib.Core.Path.{_≡_, refl, sym, ap, _∙_}
 use native.Mathlib.Omega.{arith}
@@ -51,22 +51,10 @@ interrupt-on : (g : Gate) → opens g ≡ true → g .interrupt ≡ true
 unfolding opens
 interrupt-on g o = every-true (switches g) o 4
 
--- a ring clears the interrupt of a gate exactly where it is delivered in one-shot mode
-cleared : (g : Gate) → (g .interrupt && not (passedGate g .interrupt)) ≡ (opens g && g .oneshot)
+-- a delivered ring clears the gate's interrupt exactly in one-shot mode
+cleared : (g : Gate) → opens g ≡ true → (g .interrupt && not (passedGate g .interrupt)) ≡ g .oneshot
 unfolding passedGate
-cleared g = by (opens g) refl
-  where
-    lost : (i : Bool) → (i && not (i && true)) ≡ false
-    lost true = refl
-    lost false = refl
-
-    delivered : (o : Bool) → not (not o) ≡ o
-    delivered true = refl
-    delivered false = refl
-
-    by : (b : Bool) → opens g ≡ b → (g .interrupt && not (passedGate g .interrupt)) ≡ (opens g && g .oneshot)
-    by false o = rw o (lost (g .interrupt))
-    by true o = rw (o, interrupt-on g o) (delivered (g .oneshot))
+cleared g o = rw (o, interrupt-on g o) (Bool·not-not (g .oneshot))
 
 -- the tests that a target passes
 abbrev tests : Hub → PeerId → Vector → List Bool
@@ -106,27 +94,26 @@ module _ (hub : Hub) (t : PeerId) (v : Vector) where
           let n : outcomeList hub t v true ≡ [] = rw f at e in
           let z : _≡_ {A = ℕ} 0 1 = cc in absurd (omega arith)
 
-  -- what a ring leaves: at nobody, and at a gate that is open or not
+  -- what a ring leaves: at nobody, and at a gate that is shut or open
   pub unanswered : Nobody ≡ target hub t v → rung hub (outcomeList hub t v false) ≡ ring hub t v
   unfolding ring ringAt outcomeList
   unanswered e = rw (← e)
 
   module _ (gate : Gate) (at : Live gate ≡ target hub t v) where
-    by-switches : (on : Bool) → opens gate ≡ on
-        → rung (cond (on && gate .oneshot) (disarmed hub (t .0)) hub) (outcomeList hub t v on) ≡ ring hub t v
+    pub lost : opens gate ≡ false → rung hub (outcomeList hub t v false) ≡ ring hub t v
+    unfolding ring ringAt outcomeList
+    lost o = rw (← at, o)
+
+    pub answered : opens gate ≡ true
+        → rung (cond (gate .interrupt && not (passedGate gate .interrupt)) (disarmed hub (t .0)) hub) (outcomeList hub t v true) ≡ ring hub t v
     unfolding ring ringAt afterDelivery outcomeList sentAt
-    by-switches false o = rw (← at, o)
-    by-switches true o = rw (← at, o) (ap (λ (h : Hub). rung h (sentAt hub v (t .0) ∷ [])) (either (gate .oneshot)))
+    answered o = rw (cleared gate o, ← at, o) (ap (λ (h : Hub). rung h (sentAt hub v (t .0) ∷ [])) (either (gate .oneshot)))
       where
         either : (b : Bool)
             → cond b (disarmed hub (t .0)) hub
             ≡ withSlot hub (t .0) (cond b (withPeer (slotAt hub (t .0)) (withInterrupt (slotAt hub (t .0) .peer) 0)) (slotAt hub (t .0)))
         either true = refl
         either false = slot-kept hub (t .0)
-
-    pub answered :
-        rung (cond (gate .interrupt && not (passedGate gate .interrupt)) (disarmed hub (t .0)) hub) (outcomeList hub t v (opens gate)) ≡ ring hub t v
-    answered = rw (cleared gate) (by-switches (opens gate) refl)
 
 -- every MSI-X entry is as it was, and so is a record made from one
 abbrev pub SameEntries : Hub → Hub → Type 0

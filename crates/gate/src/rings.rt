@@ -60,7 +60,10 @@ pub fn ring(hub: &mut [u32], t: PeerId, v: Vector) -> bool
         return false;
     };
     let passed = super::pass_local(gate);
+    if !passed.delivered {
+        return false;
+    }
     let after = passed.gate;
     disarm(hub, t, gate.interrupt & !after.interrupt);
-    passed.delivered
+    true
 }

@@ -24,7 +24,7 @@ pub fn gate_of(p: Peer, e: Entry) -> Gate
 pub fn opens(g: Gate) -> bool
     ensures { λ r. ⌜ r ≡ opens g ⌝ }
 {
-    g.master & g.enabled & !g.masked & !g.silenced & g.interrupt
+    (g.enabled & !g.masked) & (g.interrupt & !g.silenced) & g.master
 }
 
 // The gate after a ring: one that is delivered in one-shot mode clears the interrupt.

@@ -1,7 +1,8 @@
--- `gate::rings::ring` meets its contract: at nobody, and at a gate.
+-- `gate::rings::ring` meets its contract: at nobody, and at a gate that is shut or open.
 use mathlib.Core.Path.{sym, _∙_}
 use borrow.Author.Needs.{needs}
-use Rattle.gate.proofs.RingLaws.{found, apart, unanswered, answered}
+use borrow.Author.Tests.{not-true, not-false}
+use Rattle.gate.proofs.RingLaws.{found, apart, unanswered, lost, answered}
 use Rattle.gate.proofs.rings.ring.Statement.{statement}
 use Rattle.gate.proofs.rings.ring.Tie as tie
 
@@ -23,17 +24,23 @@ returns c = apart _ _ (unanswered _ _ _ (sym (c .enum-told .given .1) ∙ c .bef
 pass-local-requires : tie.Need-pass-local-requires
 pass-local-requires c κs = search needs
 
-disarm-requires : tie.Need-disarm-requires
-disarm-requires c κs =
-    found _ _ _ _ (sym (c .before .before .before .before .before .before .gate .given .1) ∙ c .before .before .before .before .before .before .before .before .target .ensures)
-
 same-length-2 : tie.Need-same-length-2
 same-length-2 c = search needs
 
 returns-2 : tie.Need-returns-2
 returns-2 c =
-    let r = apart _ _ (answered _ _ _ _ (sym (c .before .before .before .before .before .before .before .before .before .gate .given .1) ∙ c .before .before .before .before .before .before .before .before .before .before .before .target .ensures)) in
-    ((rw (c .before .before .before .before .before .before .before .pass-local .ensures) at (c .before .before .disarm .ensures)) ∙ r .0, rw (c .before .before .before .before .before .before .before .pass-local .ensures) (r .1))
+    apart _ _ (lost _ _ _ _ (sym (c .before .before .before .before .gate .given .1) ∙ c .before .before .before .before .before .before .target .ensures) (not-true _ (rw (c .before .before .pass-local .ensures) at (c .if1 .taken))))
+
+disarm-requires : tie.Need-disarm-requires
+disarm-requires c κs = found _ _ _ _ (sym (c .before .before .before .before .before .before .before .before .gate .given .1) ∙ c .before .before .before .before .before .before .before .before .before .before .target .ensures)
+
+same-length-3 : tie.Need-same-length-3
+same-length-3 c = search needs
+
+returns-3 : tie.Need-returns-3
+returns-3 c =
+    let r = apart _ _ (answered _ _ _ _ (sym (c .before .before .before .before .before .before .before .before .before .before .before .gate .given .1) ∙ c .before .before .before .before .before .before .before .before .before .before .before .before .before .target .ensures) (not-false _ (rw (c .before .before .before .before .before .before .before .before .before .pass-local .ensures) at (c .before .before .before .before .before .before .before .if1 .left)))) in
+    ((rw (c .before .before .before .before .before .before .before .before .before .pass-local .ensures) at (c .before .before .disarm .ensures)) ∙ r .0, r .1)
 
 pub ring-spec : {M : Type 1} → statement M
 ring-spec =
@@ -45,6 +52,8 @@ ring-spec =
     same-length
     returns
     pass-local-requires
-    disarm-requires
     same-length-2
-    returns-2)
+    returns-2
+    disarm-requires
+    same-length-3
+    returns-3)
