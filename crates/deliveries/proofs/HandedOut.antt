@@ -17,7 +17,7 @@ abbrev pub filled : Hub → Deliveries → List Delivery → ℕ → List Delive
 filled hub d table i = take i (listed hub d) ++ drop i table
 
 -- the record at an index, and one to stand beyond the end of a list
-abbrev pub recordAt : Hub → Deliveries → ℕ → Delivery
+abbrev recordAt : Hub → Deliveries → ℕ → Delivery
 recordAt hub d i = sentAt hub (d .vector) (getD (d .targets) i 0)
 
 abbrev beyond : Hub → Deliveries → Delivery

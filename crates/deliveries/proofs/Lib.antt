@@ -1,4 +1,3 @@
-pub mod ArrayParts
 pub mod HandedOut
 pub mod Lent
 pub mod ListedLaws

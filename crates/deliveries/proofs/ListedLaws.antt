@@ -1,12 +1,12 @@
 -- Laws of specs/Listed.antt: the list in hubs with the same entries, a delivery more, and the rings at every other id turn by turn.
-use Prim.Native.Nat.{ℕ, zero, suc, _+_, _-_, _≤_, _<_, _^_, min}
+use Prim.Native.Nat.{ℕ, zero, suc, _+_, _-_, _%_, _≤_, _<_, _^_, min}
 use mathlib.Core.Bool.{Bool, true, false, cond}
 use mathlib.Core.List.{List, [], _∷_, _++_, map, append-assoc, append-nil, map-append}
 use mathlib.Core.Path.{_≡_, refl, sym, ap, _∙_}
 use native.Mathlib.Numerals.{add-one}
 use native.Mathlib.Omega.{arith}
 use lib.Dec.{eqb}
-use lib.ListN.{length, take, set, length-set, length-append, length-map, length-take}
+use lib.ListN.{length, take, set, replicate, length-replicate, length-set, length-append, length-map, length-take}
 use lib.Seq.{length-take-le, take-suc-set}
 use Rattle.device.proofs.SizeLaws.{maxPeers-pos, maxPeers-byte}
 use Rattle.device.specs.declared.Delivery.{Delivery}
@@ -18,11 +18,14 @@ use Rattle.device.specs.World.{Hub}
 use Rattle.gate.proofs.RingLaws.{SameEntries, sent-same, apart, Kept, none-kept, ring-kept}
 use Rattle.gate.specs.RingOutcome.{sentAt, outcomeList}
 use Rattle.deliveries.specs.declared.Deliveries.{Deliveries}
-use Rattle.deliveries.specs.Listed.{listed, Lists, Empty, ringBut}
+use Rattle.deliveries.specs.Listed.{listed, Lists, ringBut}
 
--- an id fits a byte of the list
+-- an id fits a byte of the list, and is the same there
 pub id-fits : (i : ℕ) → i < maxPeers → i < 2 ^ 8
 id-fits i l = omega (arith, maxPeers-byte)
+
+pub id-byte : (i : ℕ) → i < maxPeers → i % 256 ≡ i
+id-byte i l = omega (arith, maxPeers-byte)
 
 pub none-listed : (hub : Hub) (d : Deliveries) → d .count ≡ 0 → listed hub d ≡ []
 unfolding listed
@@ -49,48 +52,52 @@ pub listed-same : (before after : Hub) (d : Deliveries) → SameEntries before a
 unfolding listed
 listed-same before after d same = λ k. map (λ t. sent-same before after (d .vector) t same k) (take (d .count) (d .targets))
 
--- one ring's outcome, listed
+-- one ring's outcome, listed: the id stands at every place, and the first is counted where the ring is delivered
+abbrev pub everywhere : ℕ → Vector → ℕ → Deliveries
+everywhere count v id = record { count = count; vector = v; targets = replicate maxPeers id }
+
+front : (n id : ℕ) → 0 < n → take 1 (replicate n id) ≡ id ∷ []
+front zero id l = absurd (omega arith)
+front (suc n) id l = refl
+
 module _ (hub after : Hub) (t : PeerId) (v : Vector) (delivered : Bool) (left : after ≡ ring hub t v .hub)
-    (told : outcomeList hub t v delivered ≡ ring hub t v .deliveries) (d : Deliveries) (e : Empty v d) where
-  ring-lists : (a : Deliveries) → a .count ≤ length (a .targets) → listed hub a ≡ outcomeList hub t v delivered → Lists after a (ring hub t v .deliveries)
-  ring-lists a few all =
+    (told : outcomeList hub t v delivered ≡ ring hub t v .deliveries) (count id : ℕ) where
+  ring-lists : count ≤ 1 → listed hub (everywhere count v id) ≡ outcomeList hub t v delivered → Lists after (everywhere count v id) (ring hub t v .deliveries)
+  ring-lists few all =
       record {
-        deliveries = rw left (listed-same hub _ a (ring-kept hub t v .entries)) ∙ all ∙ told;
-        count = counted hub a few ∙ ap length (all ∙ told);
+        deliveries = rw left (listed-same hub _ (everywhere count v id) (ring-kept hub t v .entries)) ∙ all ∙ told;
+        count = counted hub (everywhere count v id) (simp length-replicate (omega (arith, maxPeers-pos))) ∙ ap length (all ∙ told);
       }
 
-  pub ring-lost : delivered ≡ false → Lists after d (ring hub t v .deliveries)
+  pub ring-lost : delivered ≡ false → count ≡ 0 → Lists after (everywhere count v id) (ring hub t v .deliveries)
   unfolding outcomeList
-  ring-lost is = ring-lists d (omega arith) (rw is (none-listed hub d (e .none)))
+  ring-lost is none = ring-lists (omega arith) (rw is (none-listed hub (everywhere count v id) none))
 
-  pub ring-sent : delivered ≡ true
-      → Lists after (record { count = 1; vector = d .vector; targets = set (d .targets) 0 (t .0) }) (ring hub t v .deliveries)
+  pub ring-sent : delivered ≡ true → count ≡ 1 → id ≡ t .0 → Lists after (everywhere count v id) (ring hub t v .deliveries)
   unfolding outcomeList listed
-  ring-sent is =
-      let some : 0 < length (d .targets) = rw (e .room) maxPeers-pos in
-      ring-lists _ (rw length-set some) (rw (is, e .vector, take-suc-set (d .targets) 0 (t .0) some))
+  ring-sent is one same = ring-lists (omega arith) (rw (is, one, front maxPeers id maxPeers-pos, same))
 
--- a list with one ring's outcome appended
+-- a list of deliveries of vector 0, and one with a ring's outcome appended
+abbrev pub ofZero : ℕ → List ℕ → Deliveries
+ofZero count targets = record { count = count; vector = vector 0; targets = targets }
+
 pub record More (hub : Hub) (t : ℕ) (before : Deliveries) (delivered : Bool) (after : Deliveries) : Type 0 where
   pub few : after .count ≤ before .count + 1
-  pub vector : after .vector ≡ before .vector
   pub room : length (after .targets) ≡ length (before .targets)
-  pub all : listed hub after ≡ listed hub before ++ outcomeList hub (peerId t) (before .vector) delivered
+  pub all : listed hub after ≡ listed hub before ++ outcomeList hub (peerId t) (vector 0) delivered
 
 pub more-lost : (hub : Hub) (t : ℕ) (d : Deliveries) → More hub t d false d
 unfolding outcomeList
-more-lost hub t d = record { few = omega arith; vector = refl; room = refl; all = sym (append-nil (listed hub d)) }
+more-lost hub t d = record { few = omega arith; room = refl; all = sym (append-nil (listed hub d)) }
 
-pub more-delivered : (hub : Hub) (t : ℕ) (before : Deliveries) → before .count < length (before .targets)
-    → More hub t before true
-    (record { count = before .count + 1; vector = before .vector; targets = set (before .targets) (before .count) t })
+pub more-delivered : (hub : Hub) (t count : ℕ) (targets : List ℕ) → count < length targets
+    → More hub t (ofZero count targets) true (ofZero (count + 1) (set targets count t))
 unfolding outcomeList listed
-more-delivered hub t before l =
+more-delivered hub t count targets l =
     record {
       few = omega arith;
-      vector = refl;
       room = simp length-set;
-      all = rw (add-one, take-suc-set (before .targets) (before .count) t l) (map-append (sentAt hub (before .vector)) (take (before .count) (before .targets)) (t ∷ []));
+      all = rw (add-one, take-suc-set targets count t l) (map-append (sentAt hub (vector 0)) (take count targets) (t ∷ []));
     }
 
 -- a turn, and all turns, keep settings and entries and deliver at most one interrupt each
@@ -136,9 +143,9 @@ module _ (who peers : ℕ) (hub : Hub) (d : Deliveries) where
   unfolding ringFrom ringBut
   turn i l = let z : peers - i ≡ suc (peers - (i + 1)) = omega arith in rw (z, add-one)
 
-  pub rest-more : (i : ℕ) (delivered : Bool) (after : Hub) (a : Deliveries) (whole : Rung) → i < peers → d .vector ≡ vector 0
+  pub rest-more : (i : ℕ) (delivered : Bool) (after : Hub) (a : Deliveries) (whole : Rung) → i < peers
       → after ≡ ringBut who hub i .hub → outcomeList hub (peerId i) (vector 0) delivered ≡ ringBut who hub i .deliveries → More hub i d delivered a
       → Rest who peers i hub d whole → Rest who peers (i + 1) after a whole
-  rest-more i delivered after a whole l v eh eo m e =
-      let all : listed after a ≡ listed hub d ++ ringBut who hub i .deliveries = rw eh (listed-same hub _ a (but-kept who hub i .entries)) ∙ m .all ∙ rw (v, eo) in
+  rest-more i delivered after a whole l eh eo m e =
+      let all : listed after a ≡ listed hub d ++ ringBut who hub i .deliveries = rw eh (listed-same hub _ a (but-kept who hub i .entries)) ∙ m .all ∙ rw eo in
       rw (all, eh, append-assoc) (rw (turn i l) at e)

@@ -7,9 +7,7 @@ use mathlib.Core.Path.{_≡_}
 use lib.Dec.{eqb}
 use lib.ListN.{length, take, drop}
 use Rattle.device.specs.declared.Delivery.{Delivery}
-use Rattle.device.specs.declared.Vector.{Vector}
 use Rattle.device.specs.Ring.{Rung, rung, ring, peerId, vector}
-use Rattle.device.specs.Sizes.{maxPeers}
 use Rattle.device.specs.World.{Hub}
 use Rattle.gate.specs.RingOutcome.{sentAt}
 use Rattle.deliveries.specs.declared.Deliveries.{Deliveries}
@@ -22,12 +20,6 @@ listed hub d = map (sentAt hub (d .vector)) (take (d .count) (d .targets))
 pub record Lists (hub : Hub) (d : Deliveries) (ds : List Delivery) : Type 0 where
   pub deliveries : listed hub d ≡ ds
   pub count : d .count ≡ length ds
-
--- no delivery, and room for one at each id
-pub record Empty (v : Vector) (d : Deliveries) : Type 0 where
-  pub none : d .count ≡ 0
-  pub vector : d .vector ≡ v
-  pub room : length (d .targets) ≡ maxPeers
 
 -- the sender is not rung
 unfoldable pub ringBut : ℕ → Hub → ℕ → Rung
