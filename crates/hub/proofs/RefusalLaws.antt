@@ -2,22 +2,25 @@
 use Prim.Native.Nat.{ℕ, _<_, _≤_}
 use mathlib.Core.Bool.{Bool, true, false, not}
 use mathlib.Core.List.{List, _++_}
-use mathlib.Core.Path.{_≡_, refl, sym, _∙_}
+use mathlib.Core.Path.{_≡_, refl, sym, ap, _∙_}
 use native.Mathlib.Omega.{arith}
 use lib.Dec.{eqb, leb}
 use lib.ListN.{length}
 use borrow.Author.Tests.{eqb-true, eqb-false, leb-false, ltb-false, not-false}
 use Rattle.common.specs.Tests.{first}
-use Rattle.common.proofs.TestLaws.{first-none, first-parts}
+use Rattle.common.proofs.TestLaws.{and-right, below-true, first-none, first-parts}
 use Rattle.device.specs.Call.{Act, call}
 use Rattle.device.specs.Refusal.{Lent, Access, checks, lentTo, accessOf, wrongRegion, shortTable, missing, present, wrongWidth, misaligned, outside, forbidden, isConnected, refusal}
+use Rattle.device.specs.Reset.{resetPeer}
 use Rattle.device.specs.Sections.{sectionOf, somewhere}
-use Rattle.device.specs.SetUp.{total}
+use Rattle.device.specs.SetUp.{accepted, total}
 use Rattle.device.specs.Sound.{sound}
-use Rattle.device.specs.World.{Hub, world}
+use Rattle.device.specs.World.{Hub, Slot, world, slotAt, withPeer, resetSlot}
+use Rattle.device.proofs.CopyLaws.{absent-slot}
 use Rattle.sections.proofs.OutputLaws.{held-fits}
 use Rattle.soundness.proofs.WholeLaws.{sound-numbers, sound-room}
 use Rattle.words.specs.Layout.{hubOf}
+use Rattle.words.proofs.LayoutLaws.{entries-length}
 use Rattle.hub.specs.declared.Lending.{Lending}
 use Rattle.hub.specs.Admission.{nothingLent, regionLent, bothLent, admission, joiningRows, spaceRows, rangeRows, storeRows, anyWidth, Admitted, Inside, InSection}
 
@@ -129,6 +132,16 @@ joining-facts ws id r e = (
       let none = first-none (joiningRows (hubOf ws) id) refl (sym e ∙ z) in
       known-caller ws nothingLent id (none 0) (λ t. let z : _≡_ {A = ℕ} 0 1 = cc in absurd (omega arith)) (none 1),
 )
+
+-- a peer that may connect has its slot at reset values, so that its registers are all that changes
+pub joining-slot : (ws : List ℕ) (id : ℕ) → first (joiningRows (hubOf ws) id) ≡ 0
+    → withPeer (slotAt (hubOf ws) id) (resetPeer 1) ≡ resetSlot (hubOf ws .settings .vectors) 1
+unfolding sound resetSlot
+joining-slot ws id e =
+    let none = first-none (joiningRows (hubOf ws) id) refl e in
+    let k : id < hubOf ws .settings .peers = leb-false _ _ (none 1) in
+    let s = below-true (hubOf ws .settings .peers) _ (and-right (accepted (hubOf ws .settings)) _ (not-false _ (none 0))) id k in
+    ap (λ (slot : Slot). withPeer slot (resetPeer 1)) (absent-slot (hubOf ws .settings) (slotAt (hubOf ws) id) s (none 2) (entries-length ws id k))
 
 -- a range of the shared region that is not refused
 module _ (ws : List ℕ) (lent : Lending) (id at n r : ℕ)

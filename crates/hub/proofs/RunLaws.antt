@@ -8,17 +8,19 @@ use lib.ListN.{length}
 use lib.Dec.{eqb}
 use lib.Seq.{sets}
 use borrow.Author.Tests.{ne-eqb}
+use Rattle.common.proofs.TestLaws.{by-equal}
 use Rattle.device.specs.declared.PeerId.{PeerId}
 use Rattle.device.specs.declared.Reply.{Reply}
+use Rattle.device.specs.declared.Settings.{Settings}
 use Rattle.device.specs.declared.Vector.{Vector}
-use Rattle.device.specs.Call.{Call}
-use Rattle.device.specs.Effect.{Operation, registerStored}
-use Rattle.device.specs.Refusal.{refusal}
+use Rattle.device.specs.Call.{Act, Call, call}
+use Rattle.device.specs.Effect.{Effect, Operation, announces, does, effect, registerStored}
+use Rattle.device.specs.Refusal.{Access, Lent, accessOf, lentTo, refusal}
 use Rattle.device.specs.Registers.{Register, registerAt}
 use Rattle.device.specs.Ring
 use Rattle.device.specs.SetUp.{total}
 use Rattle.device.specs.Step.{Outcome, run, runAll, effectIn}
-use Rattle.device.specs.World.{Hub, Slot, world, withSlot}
+use Rattle.device.specs.World.{Hub, Slot, resetSlot, world, withSlot}
 use Rattle.device.proofs.SetUpLaws.{accepted-facts}
 use Rattle.device.proofs.StepLaws.{accepted-effect}
 use Rattle.deliveries.specs.declared.Deliveries.{Deliveries}
@@ -27,7 +29,8 @@ use Rattle.deliveries.proofs.ListedLaws.{none-lists}
 use Rattle.words.specs.Layout.{hubOf}
 use Rattle.hub.specs.declared.Served.{Served}
 use Rattle.hub.specs.Admission.{bothLent, Admitted, Ready}
-use Rattle.hub.specs.Promises.{Runs, Serves}
+use Rattle.hub.specs.Promises.{Restarts, Runs, Serves, Told}
+use Rattle.hub.proofs.RefusalLaws.{served-refusal}
 use Rattle.hub.proofs.ReplyLaws.{refusedBy, step-refused, reply-refused, reply-accepted}
 
 -- an admitted caller that is lent the region has a State Table entry there
@@ -103,6 +106,26 @@ serves-accepted ws after region after′ c r e value a runs =
       list = rw s (runs .list);
       kept = λ p. absurd (p (ap (λ (x : Reply). x .number) a));
     }
+
+-- reset and disconnect: whichever act it is, the slot, the State Table entry and the rings are together its effect
+pub restarts-served : (ws mid after region after′ : List ℕ) (records id connected n : ℕ) (act : Act) (r : Served)
+    → Restarts ws mid region after′ records id connected n → Told mid after id n r → lentTo act ≡ Lent.regionAndTable records → accessOf act ≡ Access.none
+    → ((s : Settings) (who : ℕ) (slot : Slot) (bytes : List ℕ) → effect s who slot bytes act ≡ does (announces who (resetSlot (s .vectors) connected)))
+    → Serves ws after region after′ (call id act) r
+unfolding announces resetSlot
+restarts-served ws mid after region after′ records id connected n act r own told lent access is =
+    let number = served-refusal (hubOf ws) region id records act lent access ∙ sym (own .number) in
+    by-equal n 0
+    (λ z.
+    serves-accepted ws after region after′ (call id act) r (number ∙ z) (sym (ap (λ (e : Effect). e .value) (is _ _ _ _))) (told .reply ∙ ap refusedBy z)
+    (rw is
+    (runs-own-then ws mid after region after′ id _ _ (r .list) (own .slot z)
+    (runs-announce mid after region id (r .list) after′ _ (own .table z) (told .left z) (told .list z)))))
+    (λ some.
+    let same = told .refused some in
+    let kept = own .refused some in
+    let e : after ≡ ws = same .0 ∙ kept .0 in
+    rw (e, kept .1) (serves-refused ws region (call id act) n r number some (told .reply) (same .1)))
 
 -- a store to any other offset than the three registers' does nothing
 pub nothing-stored : (who : ℕ) (slot : Slot) (at x : ℕ) → (at ≡ 0x08 → ⊥) → (at ≡ 0x0C → ⊥) → (at ≡ 0x10 → ⊥) →

@@ -1,21 +1,26 @@
 -- What the public calls promise: their answers, and what they leave, are the parts of `step`.
-use Prim.Native.Nat.{ℕ}
+use Prim.Native.Nat.{ℕ, _*_}
 use mathlib.Core.List.{List}
 use mathlib.Core.Path.{_≡_}
 use lib.Dec.{eqb}
 use lib.ListN.{length, replicate}
+use lib.Seq.{sets}
+use Rattle.common.specs.Bytes.{bytes}
+use Rattle.common.specs.Tests.{first}
 use Rattle.device.specs.declared.Reply.{Reply}
 use Rattle.device.specs.declared.SectionReply.{SectionReply}
 use Rattle.device.specs.declared.Settings.{Settings}
 use Rattle.device.specs.Call.{Act, Call, call}
-use Rattle.device.specs.Effect.{Operation, announces, does, effect}
-use Rattle.device.specs.Refusal.{Access, Lent, accessOf, lentTo}
+use Rattle.device.specs.Effect.{Operation}
+use Rattle.device.specs.Ring
 use Rattle.device.specs.SetUp.{setUpRefusal, hubAfterSetUp, regionAfterSetUp}
 use Rattle.device.specs.Step.{runAll, step, replyOf, sectionReplyOf}
-use Rattle.device.specs.World.{Slot, resetSlot, world}
+use Rattle.device.specs.World.{resetSlot, withSlot, world}
 use Rattle.deliveries.specs.declared.Deliveries.{Deliveries}
 use Rattle.deliveries.specs.Listed.{Lists}
+use Rattle.gate.specs.RingOutcome.{Usable}
 use Rattle.hub.specs.declared.Served.{Served}
+use Rattle.hub.specs.Admission.{admission, bothLent}
 use Rattle.words.specs.Layout.{hubWords, hubOf}
 
 -- A read: the region is not lent, and the answer is the same whatever it holds.
@@ -79,10 +84,18 @@ pub record Serves (hub after region regionAfter : List ℕ) (c : Call) (r : Serv
   pub list : Lists (hubOf after) (r .list) (step (world (hubOf hub) region) c .deliveries)
   pub kept : (r .reply .number ≡ 0 → ⊥) → after ≡ hub
 
--- Reset and disconnect are one call but for what the peer is afterwards: the promise for each call that is lent the same, reaches
--- for nothing further and has this effect.
-abbrev pub Restarts : List ℕ → List ℕ → List ℕ → List ℕ → ℕ → ℕ → ℕ → Served → Type 0
-Restarts hub after region regionAfter records id connected r =
-    (act : Act) → lentTo act ≡ Lent.regionAndTable records → accessOf act ≡ Access.none →
-    ((s : Settings) (who : ℕ) (slot : Slot) (bytes : List ℕ) → effect s who slot bytes act ≡ does (announces who (resetSlot (s .vectors) connected))) →
-    Serves hub after region regionAfter (call id act) r
+-- Reset and disconnect, which differ in whether the peer stays, up to the rings: a refusal changes nothing, else the peer's slot is at
+-- its reset values and its State Table entry is 0.
+pub record Restarts (hub after region regionAfter : List ℕ) (records id connected r : ℕ) : Type 0 where
+  pub number : r ≡ first (admission (hubOf hub) (bothLent (length region) records) id)
+  pub refused : (r ≡ 0 → ⊥) → (after ≡ hub) × (regionAfter ≡ region)
+  pub usable : r ≡ 0 → Usable after
+  pub slot : r ≡ 0 → hubOf after ≡ withSlot (hubOf hub) id (resetSlot (hubOf hub .settings .vectors) connected)
+  pub table : r ≡ 0 → regionAfter ≡ sets region (4 * id) (bytes 4 0)
+
+-- The rings of such a call: none where its number is a refusal's, else those at every other id.
+pub record Told (hub after : List ℕ) (id number : ℕ) (r : Served) : Type 0 where
+  pub reply : r .reply ≡ record { number = number; value = 0 }
+  pub refused : (number ≡ 0 → ⊥) → (after ≡ hub) × (r .list .count ≡ 0)
+  pub left : number ≡ 0 → hubOf after ≡ Ring.ringOthers id (hubOf hub) .hub
+  pub list : number ≡ 0 → Lists (hubOf after) (r .list) (Ring.ringOthers id (hubOf hub) .deliveries)

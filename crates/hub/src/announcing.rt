@@ -8,13 +8,14 @@ ghost use Prim.Native.Nat.{_*_};
 ghost use Rattle.common.specs.Bytes.{bytes};
 ghost use Rattle.device.specs.Call.{call};
 ghost use Rattle.device.specs.Call;
-ghost use Rattle.device.specs.Effect.{announces, registerStored};
+ghost use Rattle.device.specs.Effect.{registerStored};
 ghost use Rattle.device.specs.Effect;
 ghost use Rattle.device.specs.Registers.{registerAt};
-ghost use Rattle.device.specs.World.{slotAt, resetSlot};
+ghost use Rattle.device.specs.World.{slotAt};
 ghost use Rattle.words.specs.Layout.{hubOf};
+ghost use Rattle.gate.specs.RingOutcome.{Usable};
 ghost use Rattle.hub.specs.Admission.{Ready};
-ghost use Rattle.hub.specs.Promises.{Restarts, Runs, Serves};
+ghost use Rattle.hub.specs.Promises.{Restarts, Runs, Serves, Told};
 
 // An answer without deliveries.
 fn silent(number: u32) -> Served
@@ -40,15 +41,6 @@ fn announce(hub: &mut [u32], region: &mut [u8], id: u64, state: u32) -> Deliveri
 {
     memory::put_state(region, id as usize, state);
     deliveries::ring_others(hub, id)
-}
-
-// The peer's registers and entries take their reset values, and its State is 0: reset (1) and disconnect (0).
-fn restart(hub: &mut [u32], region: &mut [u8], id: u64, connected: u32) -> Deliveries
-    requires { ⌜ Ready (now hub) (now region) id ⌝ }
-    ensures { λ r. ⌜ Runs (now (hub .entry)) (now (hub .exit)) (now (region .entry)) (now (region .exit)) id (announces id (resetSlot (hubOf (now (hub .entry)) .settings .vectors) connected)) r ⌝ }
-{
-    words::put_reset(hub, id as usize, connected);
-    announce(hub, region, id, 0)
 }
 
 // A store to a register while Command bit 1 is on.
@@ -105,26 +97,42 @@ pub fn register_write(
     served(store_register(hub, region, id, offset, value))
 }
 
-// Reset and disconnect, which differ in whether the peer stays.
-fn restarted(hub: &mut [u32], region: &mut [u8], records: u64, id: u64, connected: u32) -> Served
+// Reset (1) and disconnect (0) up to the rings: the number of a refusal, or 0 and the peer's registers and entries at their reset
+// values, its State 0. What is rung is listed by the calls themselves, so that no list is handed through here.
+fn restart(hub: &mut [u32], region: &mut [u8], records: u64, id: u64, connected: u32) -> u32
     ensures { λ r. ⌜ Restarts (now (hub .entry)) (now (hub .exit)) (now (region .entry)) (now (region .exit)) records id connected r ⌝ }
 {
     let lent = refusals::both_lent(region.len() as u64, records);
     let number = refusals::admitted(hub, lent, id);
     if number != 0 {
+        return number;
+    }
+    words::put_reset(hub, id as usize, connected);
+    memory::put_state(region, id as usize, 0);
+    0
+}
+
+// Every other id is rung, but for a refusal.
+fn told(hub: &mut [u32], id: u64, number: u32) -> Served
+    requires { ⌜ (number ≡ 0 → Usable (now hub)) ⌝ }
+    ensures { λ r. ⌜ Told (now (hub .entry)) (now (hub .exit)) id number r ⌝ }
+{
+    if number != 0 {
         return silent(number);
     }
-    served(restart(hub, region, id, connected))
+    served(deliveries::ring_others(hub, id))
 }
 
 pub fn reset(hub: &mut [u32], region: &mut [u8], records: u64, id: u64) -> Served
     ensures { λ r. ⌜ Serves (now (hub .entry)) (now (hub .exit)) (now (region .entry)) (now (region .exit)) (call id (Call.Act.reset records)) r ⌝ }
 {
-    restarted(hub, region, records, id, 1)
+    let number = restart(hub, region, records, id, 1);
+    told(hub, id, number)
 }
 
 pub fn disconnect(hub: &mut [u32], region: &mut [u8], records: u64, id: u64) -> Served
     ensures { λ r. ⌜ Serves (now (hub .entry)) (now (hub .exit)) (now (region .entry)) (now (region .exit)) (call id (Call.Act.disconnect records)) r ⌝ }
 {
-    restarted(hub, region, records, id, 0)
+    let number = restart(hub, region, records, id, 0);
+    told(hub, id, number)
 }

@@ -1,5 +1,6 @@
 // Set-up of a hub, and connects.
 use super::refusals;
+use device::Peer;
 use device::Reply;
 use device::Settings;
 ghost use mathlib.Core.Path.{_≡_};
@@ -96,7 +97,7 @@ fn joining_refusal(hub: &[u32], id: u64) -> u32
     0
 }
 
-// The peer's registers take their reset values; nobody is rung.
+// The peer's registers and entries take their reset values, which those of an absent peer have already; nobody is rung.
 pub fn connect(hub: &mut [u32], id: u64) -> Reply
     ensures { λ r. ⌜ Changes (now (hub .entry)) (now (hub .exit)) (call id Call.Act.connect) r ⌝ }
 {
@@ -104,6 +105,6 @@ pub fn connect(hub: &mut [u32], id: u64) -> Reply
     if number != 0 {
         return refusals::answered(number);
     }
-    words::put_reset(hub, id as usize, 1);
+    words::put_peer(hub, id as usize, Peer::reset(1));
     refusals::answered(0)
 }

@@ -4,11 +4,15 @@ use borrow.Author.Needs.{needs}
 use Rattle.device.specs.Call.{Act}
 use Rattle.device.specs.Effect.{effect}
 use Rattle.device.specs.Refusal.{lentTo, accessOf}
+use Rattle.hub.proofs.RunLaws.{restarts-served}
 use Rattle.hub.proofs.announcing.reset.Statement.{statement}
 use Rattle.hub.proofs.announcing.reset.Tie as tie
 
-restarted-requires : tie.Need-restarted-requires
-restarted-requires c κs = search needs
+restart-requires : tie.Need-restart-requires
+restart-requires c κs = search needs
+
+told-requires : tie.Need-told-requires
+told-requires c κs = c .before .before .before .before .before .restart .ensures .usable
 
 same-length : tie.Need-same-length
 same-length c = search needs
@@ -18,7 +22,9 @@ same-length-2 c = search needs
 
 returns : tie.Need-returns
 unfolding lentTo accessOf effect
-returns c = c .before .before .before .before .restarted .ensures (Act.reset (c .before .before .before .before .before .before .before .before .before .args .records)) refl refl (λ s who slot bytes. refl)
+returns c =
+    let a = c .before .before .before .before .before .before .before .before .before .before .before .before .before .args in
+    restarts-served (a .hub .now) _ _ (a .region .now) _ (a .records) (a .id) _ _ (Act.reset (a .records)) _ (c .before .before .before .before .before .before .before .before .restart .ensures) (c .before .before .told .ensures) refl refl (λ s who slot bytes. refl)
 
 pub reset-spec : {M : Type 1} → statement M
-reset-spec = tie.close (tie.spec restarted-requires same-length same-length-2 returns)
+reset-spec = tie.close (tie.spec restart-requires told-requires same-length same-length-2 returns)

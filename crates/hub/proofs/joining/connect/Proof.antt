@@ -4,7 +4,7 @@ use borrow.Author.Needs.{needs}
 use Rattle.device.specs.Effect.{effect}
 use Rattle.device.specs.Step.{run, runAll}
 use Rattle.words.specs.Layout.{hubOf}
-use Rattle.hub.proofs.RefusalLaws.{connect-refusal}
+use Rattle.hub.proofs.RefusalLaws.{connect-refusal, joining-slot}
 use Rattle.hub.proofs.ReplyLaws.{changes-refused, changes-accepted}
 use Rattle.hub.proofs.joining.connect.Statement.{statement}
 use Rattle.hub.proofs.joining.connect.Tie as tie
@@ -25,9 +25,12 @@ returns c =
     (λ region. connect-refusal (hubOf (a .hub .now)) region (a .id) ∙ sym (c .before .before .joining-refusal .ensures .0))
     (c .before .if1 .taken) (c .answered .ensures)
 
-put-reset-requires : tie.Need-put-reset-requires
-put-reset-requires c κs =
-    let f = c .before .before .joining-refusal .ensures .1 (c .before .if1 .left) in
+reset-requires : tie.Need-reset-requires
+reset-requires c κs = search needs
+
+put-peer-requires : tie.Need-put-peer-requires
+put-peer-requires c κs =
+    let f = c .before .before .before .joining-refusal .ensures .1 (c .before .before .if1 .left) in
     f .known
 
 answered-requires-2 : tie.Need-answered-requires-2
@@ -39,10 +42,12 @@ same-length-2 c = search needs
 returns-2 : tie.Need-returns-2
 unfolding effect runAll run
 returns-2 c =
-    let a = c .before .before .before .before .before .before .before .before .before .args in
+    let a = c .before .before .before .before .before .before .before .before .before .before .args in
+    let z = sym (c .before .before .before .before .before .before .before .joining-refusal .ensures .0) ∙ c .before .before .before .before .before .before .if1 .left in
     changes-accepted (a .hub .now) _ _ _
-    (λ region. connect-refusal (hubOf (a .hub .now)) region (a .id) ∙ sym (c .before .before .before .before .before .before .joining-refusal .ensures .0) ∙ c .before .before .before .before .before .if1 .left)
-    (c .answered2 .ensures) (λ region. refl) (λ region. c .before .before .before .put-reset .ensures)
+    (λ region. connect-refusal (hubOf (a .hub .now)) region (a .id) ∙ z)
+    (c .answered2 .ensures) (λ region. refl)
+    (λ region. rw (c .before .before .before .before .reset .ensures, joining-slot (a .hub .now) (a .id) z) at (c .before .before .before .put-peer .ensures))
 
 pub connect-spec : {M : Type 1} → statement M
 connect-spec =
@@ -52,7 +57,8 @@ connect-spec =
     answered-requires
     same-length
     returns
-    put-reset-requires
+    reset-requires
+    put-peer-requires
     answered-requires-2
     same-length-2
     returns-2)
