@@ -112,9 +112,10 @@ pub fn hand_out(hub: &[u32], table: &mut [Delivery], list: Deliveries) -> usize
     let n = list.count;
     let v = list.vector;
     let targets = list.targets;
+    let counts = words::counts_of(hub);
     let mut i: usize = 0;
     while i < n {
-        table[i] = sent(hub, targets[i], v);
+        table[i] = sent_in(hub, counts.peers, counts.vectors, targets[i], v);
         i += 1;
     }
     n
