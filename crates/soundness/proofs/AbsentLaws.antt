@@ -22,19 +22,21 @@ use Rattle.soundness.proofs.TogetherLaws.{reset-together}
 pub tells-outside : (ws : List ℕ) (i peers : ℕ) (used : Bool) → peers ≤ i → Tells ws i peers used false
 tells-outside ws i peers used h = record { yes = λ e. let z : _≡_ {A = ℕ} 0 1 = cc in absurd (omega arith); no = λ e l. absurd (omega arith) }
 
-pub tells-joined : (ws : List ℕ) (i peers : ℕ) → i < peers → Tells ws i peers true (joined ws i)
-tells-joined ws i peers h = record { yes = λ e. (h, e); no = λ e l. e }
-
-pub tells-absent : (ws : List ℕ) (i peers : ℕ) → i < peers → Tells ws i peers false (not (joined ws i))
-tells-absent ws i peers h = record { yes = λ e. (h, off (joined ws i) e); no = λ e l. on (joined ws i) e }
+pub tells-inside : (ws : List ℕ) (i peers : ℕ) (used : Bool) → i < peers
+    → Tells ws i peers used ((joined ws i && used) || (not (joined ws i) && not used))
+tells-inside ws i peers used h = record { yes = λ e. (h, same (joined ws i) used e); no = λ e l. other (joined ws i) used e }
   where
-    off : (t : Bool) → not t ≡ true → t ≡ false
-    off true e = sym e
-    off false e = refl
+    same : (t u : Bool) → ((t && u) || (not t && not u)) ≡ true → t ≡ u
+    same true true e = refl
+    same true false e = sym e
+    same false true e = e
+    same false false e = refl
 
-    on : (t : Bool) → not t ≡ false → t ≡ true
-    on true e = refl
-    on false e = sym e
+    other : (t u : Bool) → ((t && u) || (not t && not u)) ≡ false → t ≡ not u
+    other true true e = e
+    other true false e = refl
+    other false true e = refl
+    other false false e = sym e
 
 -- an id of the hub is a small number
 pub counted : (ws : List ℕ) (i n : ℕ) → i < n → n ≤ hubOf ws .settings .peers → i < 2 ^ 16

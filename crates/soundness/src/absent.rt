@@ -1,6 +1,5 @@
 // The peers that are not connected, run by run: their registers and entries hold reset values.
 use device::Peer;
-ghost use mathlib.Core.Bool.{true, false};
 ghost use mathlib.Core.Path.{_≡_};
 ghost use Prim.Native.Nat.{_≤_};
 ghost use Rattle.common.specs.Tests.{below};
@@ -13,26 +12,16 @@ struct Gap {
     all: Peer,
 }
 
-// There is a peer of this id, and it is connected.
-fn present(hub: &[u32], i: usize, peers: usize) -> bool
+// There is a peer of this id, and it is connected, or not, as asked.
+fn stands(hub: &[u32], i: usize, peers: usize, used: bool) -> bool
     requires { ⌜ peers ≤ hubOf (now hub) .settings .peers ⌝ }
-    ensures { λ r. ⌜ Tells (now (hub .entry)) i peers true r ⌝ }
+    ensures { λ r. ⌜ Tells (now (hub .entry)) i peers used r ⌝ }
 {
     if peers <= i {
         return false;
     }
-    words::peer(hub, i).connected == 1
-}
-
-// There is one, and it is not.
-fn absent(hub: &[u32], i: usize, peers: usize) -> bool
-    requires { ⌜ peers ≤ hubOf (now hub) .settings .peers ⌝ }
-    ensures { λ r. ⌜ Tells (now (hub .entry)) i peers false r ⌝ }
-{
-    if peers <= i {
-        return false;
-    }
-    words::peer(hub, i).connected != 1
+    let connected = words::peer(hub, i).connected == 1;
+    (connected & used) | (!connected & !used)
 }
 
 // The first id from one on whose peer is not connected; the number of peers where there is none.
@@ -41,7 +30,7 @@ fn next_absent(hub: &[u32], from: usize, peers: usize) -> usize
     ensures { λ r. ⌜ NextAbsent (now (hub .entry)) from peers r ⌝ }
 {
     let mut i = from;
-    while present(hub, i, peers) {
+    while stands(hub, i, peers, true) {
         i += 1;
     }
     i
@@ -55,7 +44,7 @@ fn gap_from(hub: &[u32], from: usize, peers: usize) -> Gap
         to: from + 1,
         all: words::peer(hub, from),
     };
-    while absent(hub, gap.to, peers) {
+    while stands(hub, gap.to, peers, false) {
         let p = words::peer(hub, gap.to);
         gap = Gap {
             to: gap.to + 1,

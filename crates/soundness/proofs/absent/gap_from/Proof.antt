@@ -22,24 +22,24 @@ peer-requires c κs = omega (arith, c .before .pre .below, c .before .pre .known
 loop-holds : tie.Need-loop-holds Inv-loop μ-loop
 loop-holds c = rw (c .peer .ensures) (gap-first _ _ _ (c .before .before .pre))
 
-absent-requires : tie.Need-absent-requires Inv-loop μ-loop
-absent-requires c κs = c .loop .inv .known
+stands-requires : tie.Need-stands-requires Inv-loop μ-loop
+stands-requires c κs = c .loop .inv .known
 
 peer-requires-2 : tie.Need-peer-requires-2 Inv-loop μ-loop
-peer-requires-2 c κs = omega (arith, c .before .absent .ensures .yes (c .if1 .taken) .0, c .before .before .loop .inv .known)
+peer-requires-2 c κs = omega (arith, c .before .stands .ensures .yes (c .if1 .taken) .0, c .before .before .loop .inv .known)
 
 add-t9 : tie.Need-add-t9 Inv-loop μ-loop
-add-t9 c = omega (arith, counted _ _ _ (c .before .before .before .absent .ensures .yes (c .before .before .if1 .taken) .0) (c .before .before .before .before .loop .inv .known))
+add-t9 c = omega (arith, counted _ _ _ (c .before .before .before .stands .ensures .yes (c .before .before .if1 .taken) .0) (c .before .before .before .before .loop .inv .known))
 
 together-requires : tie.Need-together-requires Inv-loop μ-loop
 together-requires c κs = search needs
 
 loop-less : tie.Need-loop-less Inv-loop μ-loop
-loop-less c = omega (arith, c .before .before .before .before .absent .ensures .yes (c .before .before .before .if1 .taken) .0)
+loop-less c = omega (arith, c .before .before .before .before .stands .ensures .yes (c .before .before .before .if1 .taken) .0)
 
 loop-again : tie.Need-loop-again Inv-loop μ-loop
 loop-again c =
-    let t = c .before .before .before .before .absent .ensures .yes (c .before .before .before .if1 .taken) in
+    let t = c .before .before .before .before .stands .ensures .yes (c .before .before .before .if1 .taken) in
     rw (c .together .ensures, c .before .before .peer2 .ensures) (gap-more _ _ _ _ (c .before .before .before .before .before .loop .inv) (t .0) (t .1))
 
 returns : tie.Need-returns Inv-loop μ-loop
@@ -48,4 +48,4 @@ returns c = c .before .before .loop .inv
 pub gap-from-spec : {M : Type 1} → statement M
 gap-from-spec =
     tie.close
-    (tie.spec Inv-loop μ-loop add-t6 peer-requires loop-holds absent-requires peer-requires-2 add-t9 together-requires loop-less loop-again returns)
+    (tie.spec Inv-loop μ-loop add-t6 peer-requires loop-holds stands-requires peer-requires-2 add-t9 together-requires loop-less loop-again returns)

@@ -18,18 +18,18 @@ abbrev μ-loop : tie.MeasureT-loop
 loop-holds : tie.Need-loop-holds Inv-loop μ-loop
 loop-holds c = ((omega arith, c .before .pre .0), λ k l h. absurd (omega arith))
 
-present-requires : tie.Need-present-requires Inv-loop μ-loop
-present-requires c κs = c .before .before .pre .1
+stands-requires : tie.Need-stands-requires Inv-loop μ-loop
+stands-requires c κs = c .before .before .pre .1
 
 add-i : tie.Need-add-i Inv-loop μ-loop
-add-i c = omega (arith, counted _ _ _ (c .before .present .ensures .yes (c .if1 .taken) .0) (c .before .before .before .before .pre .1))
+add-i c = omega (arith, counted _ _ _ (c .before .stands .ensures .yes (c .if1 .taken) .0) (c .before .before .before .before .pre .1))
 
 loop-less : tie.Need-loop-less Inv-loop μ-loop
-loop-less c = omega (arith, c .before .present .ensures .yes (c .if1 .taken) .0)
+loop-less c = omega (arith, c .before .stands .ensures .yes (c .if1 .taken) .0)
 
 loop-again : tie.Need-loop-again Inv-loop μ-loop
 loop-again c =
-    let t = c .before .present .ensures .yes (c .if1 .taken) in
+    let t = c .before .stands .ensures .yes (c .if1 .taken) in
     ((omega (arith, c .before .before .loop .inv .0), omega (arith, t .0)), λ k l h. by-equal k (c .before .before .loop .i) (λ (q : k ≡ c .before .before .loop .i). rw q (t .1)) (λ d. c .before .before .loop .inv .1 k l (omega arith)))
 
 returns : tie.Need-returns Inv-loop μ-loop
@@ -38,10 +38,10 @@ returns c =
       order = c .before .before .loop .inv .0 .0;
       most = c .before .before .loop .inv .0 .1;
       passed = c .before .before .loop .inv .1;
-      absent = c .before .present .ensures .no (c .if1 .left);
+      absent = c .before .stands .ensures .no (c .if1 .left);
     }
 
 pub next-absent-spec : {M : Type 1} → statement M
 next-absent-spec =
     tie.close
-    (tie.spec Inv-loop μ-loop loop-holds present-requires add-i loop-less loop-again returns)
+    (tie.spec Inv-loop μ-loop loop-holds stands-requires add-i loop-less loop-again returns)
