@@ -1,7 +1,7 @@
 // The MSI-X entries, in four columns.
 use device::Entry;
 ghost use mathlib.Core.Path.{_≡_};
-ghost use Prim.Native.Nat.{_≤_, _<_};
+ghost use Prim.Native.Nat.{_*_, _≤_, _<_};
 ghost use Rattle.device.specs.Sizes.{maxPeers, maxVectors};
 ghost use Rattle.device.specs.World.{slotAt, entryAt, withSlot, withEntry};
 ghost use Rattle.words.specs.Layout.{hubOf, entryStart, Known, KnownVector};
@@ -53,15 +53,19 @@ pub fn entry_at(hub: &[u32], n: usize, m: usize, i: usize, v: usize) -> Entry
     }
 }
 
-// The same as `put_entry` with the hub's numbers of peers and vectors in hand, so that a loop reads them once.
-pub fn put_entry_in(hub: &mut [u32], n: usize, m: usize, i: usize, v: usize, e: Entry)
-    requires numbers { ⌜ (n ≡ hubOf (now hub) .settings .peers) × (m ≡ hubOf (now hub) .settings .vectors) ⌝ }
+// The same as `put_entry` with the place of the peer's first entry and the size of a column in hand, so that a loop finds them once.
+pub fn put_entry_from(hub: &mut [u32], start: usize, column: usize, i: usize, v: usize, e: Entry)
+    requires places { ⌜ (start ≡ entryStart (hubOf (now hub) .settings .peers) (hubOf (now hub) .settings .vectors) 0 i 0) × (column ≡ hubOf (now hub) .settings .peers * hubOf (now hub) .settings .vectors) ⌝ }
     requires known { ⌜ Known (now hub) i ⌝ }
     requires vector { ⌜ KnownVector (now hub) v ⌝ }
     ensures { λ r. ⌜ hubOf (now (hub .exit)) ≡ withSlot (hubOf (now (hub .entry))) i (withEntry (slotAt (hubOf (now (hub .entry))) i) v e) ⌝ }
 {
-    let at = entry_start(n, m, i, v);
-    super::parts::put_words(hub, at, n * m, &[e.low, e.high, e.payload, e.control]);
+    super::parts::put_words(
+        hub,
+        start + v,
+        column,
+        &[e.low, e.high, e.payload, e.control],
+    );
 }
 
 pub fn put_entry(hub: &mut [u32], i: usize, v: usize, e: Entry)
@@ -71,5 +75,6 @@ pub fn put_entry(hub: &mut [u32], i: usize, v: usize, e: Entry)
 {
     let n = super::sizes::count(hub, 0);
     let m = super::sizes::count(hub, 1);
-    put_entry_in(hub, n, m, i, v, e);
+    let start = entry_start(n, m, i, 0);
+    put_entry_from(hub, start, n * m, i, v, e);
 }

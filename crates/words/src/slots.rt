@@ -16,9 +16,11 @@ pub fn put_reset(hub: &mut [u32], i: usize, connected: u32)
     super::put_peer(hub, i, Peer::reset(connected));
     let n = super::sizes::count(hub, 0);
     let m = super::sizes::count(hub, 1);
+    let start = super::entries::entry_start(n, m, i, 0);
+    let column = n * m;
     let mut v = 0;
     while v < m {
-        super::entries::put_entry_in(hub, n, m, i, v, Entry::reset());
+        super::entries::put_entry_from(hub, start, column, i, v, Entry::reset());
         v += 1;
     }
 }

@@ -1,5 +1,5 @@
 -- `words::entries::put_entry` meets its contract: the first two words are the numbers of peers and vectors.
-use mathlib.Core.Path.{sym, _∙_}
+use mathlib.Core.Path.{refl}
 use native.Mathlib.Omega.{arith}
 use borrow.Author.Needs.{needs}
 use Rattle.words.proofs.LayoutLaws.{known-inside, peers-at, vectors-at}
@@ -12,10 +12,18 @@ count-requires c κs = omega (arith, known-inside _ _ (c .before .before .pre .0
 count-requires-2 : tie.Need-count-requires-2
 count-requires-2 c κs = omega (arith, known-inside _ _ (c .before .before .before .before .pre .0))
 
-put-entry-in-requires : tie.Need-put-entry-in-requires
-put-entry-in-requires c κs =
-    let i = known-inside _ _ (c .before .before .before .before .before .before .pre .0) in
-    ((c .before .before .before .count .ensures ∙ sym (peers-at (i .sized)), c .before .count2 .ensures ∙ sym (vectors-at (i .sized))), (c .before .before .before .before .before .before .pre .0, c .before .before .before .before .before .before .pre .1))
+entry-start-requires : tie.Need-entry-start-requires
+entry-start-requires c κs =
+    let i = known-inside _ _ (c .before .before .before .before .before .pre .0) in
+    rw (c .before .before .count .ensures, c .count2 .ensures) ((i .sized .few, i .sized .less), (omega (arith, i), omega arith))
+
+mul-put-entry-from : tie.Need-mul-put-entry-from
+mul-put-entry-from c = rw (c .before .before .before .before .count .ensures, c .before .before .count2 .ensures) (omega (arith, known-inside _ _ (c .before .before .before .before .before .before .before .pre .0)))
+
+put-entry-from-requires : tie.Need-put-entry-from-requires
+put-entry-from-requires c κs =
+    let i = known-inside _ _ (c .before .before .before .before .before .before .before .pre .0) in
+    (rw (c .before .entry-start .ensures, c .before .before .before .before .count .ensures, c .before .before .count2 .ensures, peers-at (i .sized), vectors-at (i .sized)) (refl, refl), (c .before .before .before .before .before .before .before .pre .0, c .before .before .before .before .before .before .before .pre .1))
 
 same-length : tie.Need-same-length
 same-length c = search needs
@@ -26,4 +34,4 @@ returns c = search needs
 pub put-entry-spec : {M : Type 1} → statement M
 put-entry-spec =
     tie.close
-    (tie.spec count-requires count-requires-2 put-entry-in-requires same-length returns)
+    (tie.spec count-requires count-requires-2 entry-start-requires mul-put-entry-from put-entry-from-requires same-length returns)

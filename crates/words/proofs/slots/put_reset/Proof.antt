@@ -1,30 +1,31 @@
 -- `words::slots::put_reset` meets its contract. The loop's invariant: of the slot, the entries passed are at reset.
-use Prim.Native.Nat.{ℕ, _-_, _≤_}
+use Prim.Native.Nat.{ℕ, _*_, _-_, _≤_}
 use mathlib.Core.List.{List}
 use mathlib.Core.Path.{_≡_, refl, sym, ap, _∙_}
 use native.Mathlib.Omega.{arith}
 use borrow.Author.Needs.{needs}
 use lib.ListN.{length}
 use Rattle.device.specs.World.{Hub, slotAt, withSlot}
-use Rattle.words.specs.Layout.{hubOf, Known}
+use Rattle.words.specs.Layout.{entryStart, hubOf, Known}
 use Rattle.words.proofs.LayoutLaws.{known-inside, peers-at, vectors-at}
 use Rattle.words.proofs.SlotLaws.{cleared, slot-kept, cleared-more, cleared-all}
 use Rattle.words.proofs.slots.put_reset.Statement.{statement}
 use Rattle.words.proofs.slots.put_reset.Tie as tie
 
-record Inv (hub₀ : List ℕ) (i n m : ℕ) (hub : List ℕ) (v : ℕ) : Type 0 where
+record Inv (hub₀ : List ℕ) (i m start column : ℕ) (hub : List ℕ) (v : ℕ) : Type 0 where
   known : Known hub₀ i
-  peers : n ≡ hubOf hub₀ .settings .peers
   vectors : m ≡ hubOf hub₀ .settings .vectors
+  first : start ≡ entryStart (hubOf hub₀ .settings .peers) (hubOf hub₀ .settings .vectors) 0 i 0
+  apart : column ≡ hubOf hub₀ .settings .peers * hubOf hub₀ .settings .vectors
   bound : v ≤ m
   kept : length hub ≡ length hub₀
   reset : hubOf hub ≡ withSlot (hubOf hub₀) i (cleared (slotAt (hubOf hub₀) i) v)
 
 abbrev Inv-loop : tie.InvT-loop
-Inv-loop hub₀ i connected n m v₀ hub v = Inv hub₀ i n m hub v
+Inv-loop hub₀ i connected n m start column v₀ hub v = Inv hub₀ i m start column hub v
 
 abbrev μ-loop : tie.MeasureT-loop
-μ-loop hub₀ i connected n m v₀ hub v = m - v
+μ-loop hub₀ i connected n m start column v₀ hub v = m - v
 
 reset-requires : tie.Need-reset-requires Inv-loop μ-loop
 reset-requires c κs = search needs
@@ -33,21 +34,29 @@ put-peer-requires : tie.Need-put-peer-requires Inv-loop μ-loop
 put-peer-requires c κs = c .before .before .before .pre
 
 count-requires : tie.Need-count-requires Inv-loop μ-loop
-count-requires c κs =
-    omega (arith, known-inside (c .before .before .before .put-peer .last .0) (c .before .before .before .before .before .before .before .args .i) (rw (c .before .before .before .put-peer .ensures) (c .before .before .before .before .before .before .before .pre)))
+count-requires c κs = omega (arith, known-inside (c .before .before .before .put-peer .last .0) (c .before .before .before .before .before .before .before .args .i) (rw (c .before .before .before .put-peer .ensures) (c .before .before .before .before .before .before .before .pre)))
 
 count-requires-2 : tie.Need-count-requires-2 Inv-loop μ-loop
-count-requires-2 c κs =
-    omega (arith, known-inside (c .before .before .before .before .before .put-peer .last .0) (c .before .before .before .before .before .before .before .before .before .args .i) (rw (c .before .before .before .before .before .put-peer .ensures) (c .before .before .before .before .before .before .before .before .before .pre)))
+count-requires-2 c κs = omega (arith, known-inside (c .before .before .before .before .before .put-peer .last .0) (c .before .before .before .before .before .before .before .before .before .args .i) (rw (c .before .before .before .before .before .put-peer .ensures) (c .before .before .before .before .before .before .before .before .before .pre)))
+
+entry-start-requires : tie.Need-entry-start-requires Inv-loop μ-loop
+entry-start-requires c κs =
+    let i = known-inside (c .before .before .before .before .before .before .put-peer .last .0) (c .before .before .before .before .before .before .before .before .before .before .args .i) (rw (c .before .before .before .before .before .before .put-peer .ensures) (c .before .before .before .before .before .before .before .before .before .before .pre)) in
+    rw (c .before .before .count .ensures, c .count2 .ensures) ((i .sized .few, i .sized .less), (omega (arith, i), omega arith))
+
+mul-column : tie.Need-mul-column Inv-loop μ-loop
+mul-column c =
+    rw (c .before .before .before .count .ensures, c .before .count2 .ensures) (omega (arith, known-inside (c .before .before .before .before .before .before .before .put-peer .last .0) (c .before .before .before .before .before .before .before .before .before .before .before .args .i) (rw (c .before .before .before .before .before .before .before .put-peer .ensures) (c .before .before .before .before .before .before .before .before .before .before .before .pre))))
 
 loop-holds : tie.Need-loop-holds Inv-loop μ-loop
 loop-holds c =
-    let known : Known (c .before .before .before .before .before .before .put-peer .last .0) (c .before .before .before .before .before .before .before .before .before .before .args .i) = rw (c .before .before .before .before .before .before .put-peer .ensures) (c .before .before .before .before .before .before .before .before .before .before .pre) in
+    let known : Known (c .before .before .before .before .before .before .before .put-peer .last .0) (c .before .before .before .before .before .before .before .before .before .before .before .args .i) = rw (c .before .before .before .before .before .before .before .put-peer .ensures) (c .before .before .before .before .before .before .before .before .before .before .before .pre) in
     let z = known-inside _ _ known .sized in
     record {
       known = known;
-      peers = c .before .before .count .ensures ∙ sym (peers-at z);
-      vectors = c .count2 .ensures ∙ sym (vectors-at z);
+      vectors = c .before .count2 .ensures ∙ sym (vectors-at z);
+      first = rw (c .entry-start .ensures, c .before .before .before .count .ensures, c .before .count2 .ensures, peers-at z, vectors-at z);
+      apart = rw (c .before .before .before .count .ensures, c .before .count2 .ensures, peers-at z, vectors-at z);
       bound = omega arith;
       kept = refl;
       reset = slot-kept _ _;
@@ -56,10 +65,10 @@ loop-holds c =
 reset-requires-2 : tie.Need-reset-requires-2 Inv-loop μ-loop
 reset-requires-2 c κs = search needs
 
-put-entry-in-requires : tie.Need-put-entry-in-requires Inv-loop μ-loop
-put-entry-in-requires c κs =
+put-entry-from-requires : tie.Need-put-entry-from-requires Inv-loop μ-loop
+put-entry-from-requires c κs =
     let s = c .before .before .before .loop .inv .reset in
-    ((rw s (c .before .before .before .loop .inv .peers), rw s (c .before .before .before .loop .inv .vectors)), (rw s (c .before .before .before .loop .inv .known), rw s (rw (c .before .before .before .loop .inv .vectors) at (c .before .before .loop-test .taken))))
+    ((rw s (c .before .before .before .loop .inv .first), rw s (c .before .before .before .loop .inv .apart)), (rw s (c .before .before .before .loop .inv .known), rw s (rw (c .before .before .before .loop .inv .vectors) at (c .before .before .loop-test .taken))))
 
 add-v : tie.Need-add-v Inv-loop μ-loop
 add-v c = omega arith
@@ -71,23 +80,24 @@ loop-again : tie.Need-loop-again Inv-loop μ-loop
 loop-again c =
     record {
       known = c .before .before .before .before .before .before .loop .inv .known;
-      peers = c .before .before .before .before .before .before .loop .inv .peers;
       vectors = c .before .before .before .before .before .before .loop .inv .vectors;
+      first = c .before .before .before .before .before .before .loop .inv .first;
+      apart = c .before .before .before .before .before .before .loop .inv .apart;
       bound = omega arith;
-      kept = c .before .before .put-entry-in .kept .0 ∙ c .before .before .before .before .before .before .loop .inv .kept;
+      kept = c .before .before .put-entry-from .kept .0 ∙ c .before .before .before .before .before .before .loop .inv .kept;
       reset =
           cleared-more _ _ _ _ (c .before .before .before .before .before .before .loop .inv .known) _ (rw (c .before .before .before .before .before .before .loop .inv .vectors) at (c .before .before .before .before .before .loop-test .taken)) (c .before .before .before .before .before .before .loop .inv .reset)
-          (rw (c .before .before .before .reset2 .ensures) at (c .before .before .put-entry-in .ensures));
+          (rw (c .before .before .before .reset2 .ensures) at (c .before .before .put-entry-from .ensures));
     }
 
 same-length : tie.Need-same-length Inv-loop μ-loop
-same-length c = c .before .loop .inv .kept ∙ c .before .before .before .before .before .before .before .before .put-peer .kept .0
+same-length c = c .before .loop .inv .kept ∙ c .before .before .before .before .before .before .before .before .before .put-peer .kept .0
 
 returns : tie.Need-returns Inv-loop μ-loop
 returns c =
-    let e : c .before .loop .v ≡ c .before .before .count2 .result = omega arith in
-    let last = e ∙ c .before .loop .inv .vectors ∙ ap (λ (h : Hub). h .settings .vectors) (c .before .before .before .before .before .before .before .before .put-peer .ensures) in
-    cleared-all _ _ _ _ (c .before .before .before .before .before .before .before .before .before .before .before .before .pre) _ (rw (c .before .before .before .before .before .before .before .before .before .reset .ensures) at (c .before .before .before .before .before .before .before .before .put-peer .ensures)) (rw last at (c .before .loop .inv .reset))
+    let e : c .before .loop .v ≡ c .before .before .before .count2 .result = omega arith in
+    let last = e ∙ c .before .loop .inv .vectors ∙ ap (λ (h : Hub). h .settings .vectors) (c .before .before .before .before .before .before .before .before .before .put-peer .ensures) in
+    cleared-all _ _ _ _ (c .before .before .before .before .before .before .before .before .before .before .before .before .before .pre) _ (rw (c .before .before .before .before .before .before .before .before .before .before .reset .ensures) at (c .before .before .before .before .before .before .before .before .before .put-peer .ensures)) (rw last at (c .before .loop .inv .reset))
 
 pub put-reset-spec : {M : Type 1} → statement M
 put-reset-spec =
@@ -99,9 +109,11 @@ put-reset-spec =
     put-peer-requires
     count-requires
     count-requires-2
+    entry-start-requires
+    mul-column
     loop-holds
     reset-requires-2
-    put-entry-in-requires
+    put-entry-from-requires
     add-v
     loop-less
     loop-again
