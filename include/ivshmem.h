@@ -114,8 +114,9 @@ ivshmem_reply ivshmem_set_up(uint32_t *hub, size_t hub_words, uint8_t *region, s
 /* The peer joins with all registers at their reset values; nobody is rung. Refused with 10, 3 or 5. */
 ivshmem_reply ivshmem_connect(uint32_t *hub, size_t hub_words, uint64_t id);
 
-/* The peer leaves: its registers take their reset values, its State Table entry is 0, then vector 0 is rung at every other
-   peer. The deliveries are written to the table from the front, in ring order. Refused with 10, 2, 11, 3 or 4. */
+/* The peer leaves: its registers take their reset values, and its State Table entry is 0. If its State was not 0, vector 0 is
+   then rung at every other peer. The deliveries are written to the table from the front, in ring order. Refused with 10, 2,
+   11, 3 or 4. */
 ivshmem_counted ivshmem_disconnect(uint32_t *hub, size_t hub_words, uint8_t *region, size_t region_bytes,
                                    ivshmem_delivery *deliveries, size_t records, uint64_t id);
 
@@ -133,8 +134,8 @@ ivshmem_reply ivshmem_configuration_write(uint32_t *hub, size_t hub_words, uint6
                                           uint32_t value);
 
 /* The register region (BAR 0); width 4. With Command bit 1 off it reads FFFFFFFFh and stores do nothing. A store to Doorbell
-   may deliver one interrupt, a store to State one to each other peer. Refused with 10, 3, 4, 6, 7 or 8, a write also with 2
-   or 11. */
+   may deliver one interrupt, a store to State one to each other peer; a store of the value that State holds rings nobody.
+   Refused with 10, 3, 4, 6, 7 or 8, a write also with 2 or 11. */
 ivshmem_reply ivshmem_register_read(const uint32_t *hub, size_t hub_words, uint64_t id, uint64_t offset, uint64_t width);
 ivshmem_counted ivshmem_register_write(uint32_t *hub, size_t hub_words, uint8_t *region, size_t region_bytes,
                                        ivshmem_delivery *deliveries, size_t records, uint64_t id, uint64_t offset,

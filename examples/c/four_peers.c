@@ -65,6 +65,7 @@ static void doorbell_and_state(void)
     answered("peer 2 turns one-shot on", ivshmem_configuration_write(hub, WORDS, 2, PRIVILEGED_CONTROL, 1, 1));
     delivered("peer 1 stores State 5", write_register(1, STATE, 5));
     delivered("peer 1 stores State 5 again", write_register(1, STATE, 5));
+    delivered("peer 1 stores State 6", write_register(1, STATE, 6));
     answered("peer 2 reads Interrupt Control", ivshmem_register_read(hub, WORDS, 2, INTERRUPT_CONTROL, 4));
     answered("peer 0 reads its entry 0, data", ivshmem_msix_read(hub, WORDS, 0, PAYLOAD, 4));
     printf("State Table entry of peer 1: %02X %02X %02X %02X\n", region[4], region[5], region[6], region[7]);
@@ -102,7 +103,7 @@ int main(void)
     delivered("peer 1 is reset", ivshmem_reset(hub, WORDS, region, TOTAL, deliveries, PEERS, 1));
     delivered("peer 3 is disconnected, the table too short",
               ivshmem_disconnect(hub, WORDS, region, TOTAL, deliveries, PEERS - 1, 3));
-    delivered("peer 3 is disconnected", ivshmem_disconnect(hub, WORDS, region, TOTAL, deliveries, PEERS, 3));
+    delivered("peer 3 is disconnected, its State 0", ivshmem_disconnect(hub, WORDS, region, TOTAL, deliveries, PEERS, 3));
     answered("peer 3 reads its id", ivshmem_register_read(hub, WORDS, 3, 0, 4));
     memset(hub, 0xFF, sizeof hub);
     answered("connect on a hub of noise", ivshmem_connect(hub, WORDS, 0));

@@ -146,13 +146,21 @@ fn unsound(hub: &mut Hub, region: &mut Region) {
     calls::made(hub, b"V", places::V, 2);
 }
 
-// Tables of exactly N records and of more, also of a number that would be less than N in 32 bits.
+// Peer 1 stores to State.
+fn announced(hub: &mut Hub, region: &mut Region, records: u64, value: u32) {
+    lengths(region.len(), records);
+    acts::register_write(hub, region, records, 1, 0x10, 4, value);
+}
+
+// Tables of exactly N records and of more, also of a number that would be less than N in 32 bits, with a State that changes.
 fn enough(hub: &mut Hub, region: &mut Region) {
-    register(hub, region, 4, 1, 0x10, 4);
-    register(hub, region, 5, 1, 0x10, 4);
-    register(hub, region, 0x100000000, 1, 0x10, 4);
+    announced(hub, region, 4, 9);
+    announced(hub, region, 5, 10);
+    announced(hub, region, 0x100000000, 11);
     lengths(region.len(), 5);
     acts::reset(hub, region, 5, 1);
+    rings::all_on(hub, region, 1, 0x41);
+    announced(hub, region, 4, 12);
     lengths(region.len(), 0xFFFFFFFFFFFFFFFF);
     acts::disconnect(hub, region, 0xFFFFFFFFFFFFFFFF, 1);
 }

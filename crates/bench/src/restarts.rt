@@ -54,13 +54,15 @@ fn seen(hub: &mut Hub, region: &Region) {
     shared(hub, region, 1, 4096);
 }
 
-// Peer 3 is one-shot: it is rung once.
+// Peer 3 is one-shot: it is rung once. A reset with State 0 rings nobody.
 fn resets(hub: &mut Hub, region: &mut Region) {
     acts::configuration_write(hub, 3, 0x43, 1, 0x01);
     acts::reset(hub, region, 4, 1);
     rings::interrupt(hub, 0);
     rings::interrupt(hub, 3);
     seen(hub, region);
+    register(hub, region, 0x10, 3);
+    acts::reset(hub, region, 4, 1);
     acts::reset(hub, region, 4, 1);
     acts::configuration_write(hub, 3, 0x43, 1, 0);
     acts::register_write(hub, region, 4, 3, 0x08, 4, 1);
@@ -93,6 +95,7 @@ fn disconnects(hub: &mut Hub, region: &mut Region) {
     gone(hub, region);
     calls::connect(hub, 1);
     seen(hub, region);
+    acts::register_write(hub, region, 4, 0, 0x10, 4, 1);
     acts::disconnect(hub, region, 4, 0);
     acts::disconnect(hub, region, 4, 3);
     acts::disconnect(hub, region, 4, 1);

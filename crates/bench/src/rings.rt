@@ -71,7 +71,7 @@ pub fn all_on(hub: &mut [u32], region: &mut Region, id: u64, payload: u32) {
     print::text(b"h\n");
 }
 
-// The list of the rules: peer 3 alone is one-shot.
+// The list of the rules: peer 3 alone is one-shot. The second store of 5 changes nothing, so it delivers nothing.
 fn whole_list(hub: &mut Hub, region: &mut Region) {
     switched(hub, region, 0, 0x40);
     switched(hub, region, 3, 0x43);
@@ -98,7 +98,7 @@ fn one_shot(hub: &mut Hub, region: &mut Region) {
     register(hub, region, 3, 0x08, 1);
     msix_write(hub, 3, 0x0C, 4, 1);
     register(hub, region, 1, 0x0C, 0x00030000);
-    register(hub, region, 1, 0x10, 5);
+    register(hub, region, 1, 0x10, 4);
     interrupt(hub, 0);
     interrupt(hub, 3);
     msix_write(hub, 3, 0x0C, 4, 0);
@@ -237,7 +237,8 @@ fn last(hub: &mut Largest, region: &mut Region) {
     calls::connect(hub, 64);
 }
 
-// The most peers with the most vectors: tables of 63 and of 64 records, all the others rung, and words that are one off.
+// The most peers with the most vectors: tables of 63 and of 64 records, all the others rung, and words that are one off. After its
+// reset peer 63 has State 0, so that its disconnect rings nobody.
 fn sixty_four(hub: &mut Largest, region: &mut Region) {
     super::setups::set_up(hub, region, [64, 16, 4096, 32768, 0, 0, 36864]);
     all_joined(hub, region);
@@ -253,6 +254,8 @@ fn sixty_four(hub: &mut Largest, region: &mut Region) {
     acts::reset(hub, region, 64, 63);
     acts::disconnect(hub, region, 64, 63);
     load(hub, region, 0, 248);
+    acts::disconnect(hub, region, 64, 31);
+    load(hub, region, 0, 124);
 }
 
 pub fn run(hub: &mut Hub, region: &mut Region) {

@@ -19,7 +19,7 @@ use Rattle.device.specs.declared.Settings.{Settings}
 use Rattle.device.specs.Call.{Act, Call}
 use Rattle.device.specs.Call.Act.{connect, disconnect, reset, configurationRead, configurationWrite, registerRead, registerWrite, msixRead, msixWrite, question, load, store}
 use Rattle.device.specs.Configuration.{within, fields, fieldByte, configurationByte, masks, maskIn, maskAt, configurationWritten}
-use Rattle.device.specs.Effect.{Operation, announces, effect, registerStored, stateValue, withState}
+use Rattle.device.specs.Effect.{Operation, effect, registerStored, stateValue, withState}
 use Rattle.device.specs.History.{start}
 use Rattle.device.specs.Msix.{msixWritten, inTable}
 use Rattle.device.specs.Refusal.{accessOf, missing, present, forbidden, isConnected, refusal}
@@ -32,7 +32,7 @@ use Rattle.device.specs.Window.{memoryAfter, memoryBit, isAccepted}
 use Rattle.device.specs.World.{Slot, World, zeroSlot, resetSlot, slotAt, withPeer}
 use Rattle.device.proofs.ConfigurationLaws.{written-reads}
 use Rattle.device.proofs.FixedLaws.{written-fixed, written-connected}
-use Rattle.device.proofs.KeepingLaws.{Frame, frame, Every, Leaves, runAll-frame, runAll-keeps}
+use Rattle.device.proofs.KeepingLaws.{Frame, frame, Every, Leaves, announces-leaves, runAll-frame, runAll-keeps}
 use Rattle.device.proofs.SoundLaws.{used, absent-sound, present-sound, delivery-sound, peer-sound, msix-sound}
 use Rattle.device.proofs.StepLaws.{accepted-effect, refused-changes-nothing}
 
@@ -65,7 +65,7 @@ Sound s i slot = slotSound s slot ≡ true
 
 stored-sound : (s : Settings) (who : ℕ) (slot : Slot) (r : Register) (x : ℕ) → slot .peer .connected ≡ 1 → Sound s who slot
     → Leaves (Sound s who) slot (registerStored who slot r x)
-unfolding registerStored announces
+unfolding registerStored
 stored-sound s who slot Register.identity x c e = e
 stored-sound s who slot Register.maximumPeers x c e = e
 stored-sound s who slot Register.interruptControl x c e =
@@ -76,20 +76,19 @@ stored-sound s who slot Register.interruptControl x c e =
 stored-sound s who slot Register.doorbell x c e = (e, λ later f. f)
 stored-sound s who slot Register.state x c e =
     let u = used s slot c e in
-    let f = u .fixed in (
-      peer-sound s slot (withState (slot .peer) (stateValue x)) c u
-          (record { command = f .command; bar0 = f .bar0; bar1 = f .bar1; privileged = f .privileged; message = f .message; interrupt = f .interrupt }),
-      λ later f. f,
-    )
+    let f = u .fixed in
+    announces-leaves (Sound s who) who slot slot _
+    (peer-sound s slot (withState (slot .peer) (stateValue x)) c u
+    (record { command = f .command; bar0 = f .bar0; bar1 = f .bar1; privileged = f .privileged; message = f .message; interrupt = f .interrupt }))
 stored-sound s who slot Register.none x c e = e
 
 effect-sound : (s : Settings) (who : ℕ) (slot : Slot) (region : List ℕ) (a : Act)
     → missing (eqb (slot .peer .connected) 1) (accessOf a) ≡ false → Sound s who slot
     → Leaves (Sound s who) slot (effect s who slot region a .operations)
-unfolding effect announces accessOf missing
+unfolding effect accessOf missing
 effect-sound s who slot region connect m e = present-sound s
-effect-sound s who slot region (disconnect n) m e = (absent-sound s, λ later f. f)
-effect-sound s who slot region (reset n) m e = (present-sound s, λ later f. f)
+effect-sound s who slot region (disconnect n) m e = announces-leaves (Sound s who) who slot slot _ (absent-sound s)
+effect-sound s who slot region (reset n) m e = announces-leaves (Sound s who) who slot slot _ (present-sound s)
 effect-sound s who slot region (configurationRead at w) m e = e
 effect-sound s who slot region (configurationWrite at w x) m e =
     let c : slot .peer .connected ≡ 1 = eqb-true _ _ (not-false _ m) in
@@ -144,20 +143,20 @@ written-memory s p at w x =
     go false = sym (memory-byte s p)
 
 stored-memory : (who : ℕ) (slot : Slot) (r : Register) (x : ℕ) (on : Bool) → Tracks on slot → Leaves (Tracks on) slot (registerStored who slot r x)
-unfolding registerStored announces memoryOn
+unfolding registerStored memoryOn
 stored-memory who slot Register.identity x on e = e
 stored-memory who slot Register.maximumPeers x on e = e
 stored-memory who slot Register.interruptControl x on e = e
 stored-memory who slot Register.doorbell x on e = (e, λ later f. f)
-stored-memory who slot Register.state x on e = (e, λ later f. f)
+stored-memory who slot Register.state x on e = announces-leaves (Tracks on) who slot slot _ e
 stored-memory who slot Register.none x on e = e
 
 effect-memory : (s : Settings) (who : ℕ) (slot : Slot) (region : List ℕ) (a : Act) (on : Bool) → Tracks on slot
     → Leaves (Tracks (memoryAfter a on)) slot (effect s who slot region a .operations)
-unfolding effect announces memoryAfter resetSlot memoryOn msixWritten
+unfolding effect memoryAfter resetSlot memoryOn msixWritten
 effect-memory s who slot region connect on e = λ c. refl
-effect-memory s who slot region (disconnect n) on e = (λ c. absurd (omega (arith, c)), λ later f. f)
-effect-memory s who slot region (reset n) on e = (λ c. refl, λ later f. f)
+effect-memory s who slot region (disconnect n) on e = announces-leaves (Tracks on) who slot slot _ (λ c. absurd (omega (arith, c)))
+effect-memory s who slot region (reset n) on e = announces-leaves (Tracks false) who slot slot _ (λ c. refl)
 effect-memory s who slot region (configurationRead at w) on e = e
 effect-memory s who slot region (configurationWrite at w x) on e =
     λ c. written-memory s (slot .peer) at w x ∙ ap (λ (t : Bool). cond (within at w 0x04) (bit 1 (byte (0x04 - at) x)) t) (e (sym (written-connected s (slot .peer) at w x) ∙ c))

@@ -15,7 +15,7 @@ use Rattle.device.specs.Call.{Call, call}
 use Rattle.device.specs.Call.Act.{connect, disconnect, reset, configurationRead, configurationWrite, registerRead, registerWrite, msixRead, msixWrite, question, load, store}
 use Rattle.device.specs.Configuration
 use Rattle.device.specs.Configuration.{fields, fieldByte, configurationByte, masks, maskIn, maskAt, maskOf, withByte, writtenByte, configurationWritten}
-use Rattle.device.specs.Effect.{announces, registerStored, effect}
+use Rattle.device.specs.Effect.{changes, announces, registerStored, effect}
 use Rattle.device.specs.History.{Observation, start, observed, deliveriesTo, answerTo}
 use Rattle.device.specs.Msix.{inTable, withWord, msixWritten}
 use Rattle.device.specs.Refusal.{lentTo, accessOf, wrongRegion, shortTable, missing, present, wrongWidth, misaligned, outside, forbidden, isConnected, refusal}
@@ -28,7 +28,7 @@ use Rattle.device.specs.SetUp.{total, accepted, freshHub}
 use Rattle.device.specs.Sizes.{maxPeers, maxVectors}
 use Rattle.device.specs.Sound.{peerFixed, peerReset, entryFixed, entryReset, peerSound, entrySound, slotSound, sound}
 use Rattle.device.specs.Step.{run, runAll, stepBy, step}
-use Rattle.device.specs.Window.{Item, memoryAfter, memoryBit, sentBy, sent, items, windowFrom, window, Alike}
+use Rattle.device.specs.Window.{Item, memoryAfter, memoryBit, wordSent, sentBy, sent, items, windowFrom, window, Alike}
 use Rattle.device.specs.World.{zeroSlot, resetSlot}
 use Rattle.device.proofs.Isolation.{isolation}
 
@@ -140,7 +140,8 @@ Coded p =
     × (same (codes observationCode (observed 0 (start numbers) (p .with))) (codes observationCode (observed 0 (start numbers) (p .without))) ≡ false)
 
 -- Calls of others that are no item: refused ones, reads, the section question, loads, connects, stores to own registers and entries,
--- rings at itself, at a third peer and beyond the last id, and rings and State stores with Command bit 1 off (peer 2).
+-- rings at itself, at a third peer and beyond the last id, rings and State stores with Command bit 1 off (peer 2), and, since C-11,
+-- the State 5 stored again, and a reset and a disconnect of a peer whose State is 0.
 abbrev pub hidden : List Call
 hidden =
     call 1 (registerRead 0x04 2)
@@ -157,6 +158,9 @@ hidden =
     ∷ call 2 connect
     ∷ call 2 (registerWrite 3 0x0C 4 0x00000000)
     ∷ call 2 (registerWrite 3 0x10 4 9)
+    ∷ call 2 (reset 3)
+    ∷ call 2 (disconnect 3)
+    ∷ stores
     ∷ call 1 (registerWrite 3 0x0C 4 0x00010000)
     ∷ call 1 (registerWrite 3 0x0C 4 0x00020000)
     ∷ call 1 (registerWrite 3 0x0C 4 0x00030000)
@@ -170,7 +174,7 @@ interrupts (Observation.interrupted d ∷ os) = d ∷ interrupts os
 
 -- all that the examples compute with
 unfoldable pub computing : Unit {0}
-unfolding bytes number setByte first every below fields fieldByte configurationByte masks maskIn maskAt maskOf withByte writtenByte configurationWritten Configuration.configurationRead announces registerStored effect start observed deliveriesTo answerTo inTable withWord msixWritten lentTo accessOf wrongRegion shortTable missing present wrongWidth misaligned outside forbidden isConnected refusal registerAt memoryOn registerValue Registers.registerRead gateOf opens target deliveryOf afterDelivery ringAt ring ringFrom Ring.ringOthers outputs sections sectionIn sectionOf somewhere mayStore total accepted freshHub maxPeers maxVectors peerFixed peerReset entryFixed entryReset peerSound entrySound slotSound sound run runAll stepBy step memoryAfter memoryBit sentBy sent items windowFrom window zeroSlot resetSlot
+unfolding bytes number setByte first every below fields fieldByte configurationByte masks maskIn maskAt maskOf withByte writtenByte configurationWritten Configuration.configurationRead changes announces registerStored effect start observed deliveriesTo answerTo inTable withWord msixWritten lentTo accessOf wrongRegion shortTable missing present wrongWidth misaligned outside forbidden isConnected refusal registerAt memoryOn registerValue Registers.registerRead gateOf opens target deliveryOf afterDelivery ringAt ring ringFrom Ring.ringOthers outputs sections sectionIn sectionOf somewhere mayStore total accepted freshHub maxPeers maxVectors peerFixed peerReset entryFixed entryReset peerSound entrySound slotSound sound run runAll stepBy step memoryAfter memoryBit wordSent sentBy sent items windowFrom window zeroSlot resetSlot
 computing = tt
 
 calls-coded : Coded calls
@@ -201,7 +205,7 @@ accepts : accepted numbers ≡ true
 unfolding computing
 accepts = refl
 
-hides : window 0 numbers (joined ++ (hidden ++ looks)) ≡ window 0 numbers (joined ++ looks)
+hides : window 0 numbers (ready ++ (stores ∷ hidden ++ looks)) ≡ window 0 numbers (ready ++ (stores ∷ looks))
 unfolding computing
 hides = refl
 
@@ -222,5 +226,5 @@ pub every-item-matters : Each Matters pairs
 every-item-matters = matters pairs (calls-coded, (bells-coded, (stores-coded, (resets-coded, (disconnects-coded, (shared-coded, tt))))))
 
 -- Calls that are no item change nothing for peer 0.
-pub others-hidden : Alike 0 numbers (joined ++ (hidden ++ looks)) (joined ++ looks)
+pub others-hidden : Alike 0 numbers (ready ++ (stores ∷ hidden ++ looks)) (ready ++ (stores ∷ looks))
 others-hidden = isolation numbers accepts 0 _ _ hides

@@ -16,7 +16,7 @@ use Rattle.device.specs.declared.Settings.{Settings}
 use Rattle.device.specs.declared.Target.{Target}
 use Rattle.device.specs.declared.Target.the-variants.{Live, Nobody}
 use Rattle.device.specs.declared.Vector.{Vector}
-use Rattle.device.specs.Effect.{Operation}
+use Rattle.device.specs.Effect.{Operation, announces, changes}
 use Rattle.device.specs.Ring.{rung, peerId, vector, opens, target, afterDelivery, ringAt, ring, ringFrom}
 use Rattle.device.specs.Ring
 use Rattle.device.specs.Step.{run, runAll}
@@ -93,6 +93,15 @@ Leaves P slot (Operation.own new ∷ os) = Leaves P new os
 Leaves P slot (Operation.write at bs ∷ os) = Leaves P slot os
 Leaves P slot (Operation.ringOne t v ∷ os) = P slot × ((later : Slot) → P later → Leaves P later os)
 Leaves P slot (Operation.ringOthers ∷ os) = P slot × ((later : Slot) → P later → Leaves P later os)
+
+-- State store, reset and disconnect: the new slot, whether they ring or not
+pub announces-leaves : (P : Slot → Type 0) (who : ℕ) (slot old new : Slot) → P new → Leaves P slot (announces who old new)
+unfolding announces
+announces-leaves P who slot old new h = go (changes (old .peer .state) (new .peer .state))
+  where
+    go : (t : Bool) → Leaves P new (cond t (Operation.ringOthers ∷ []) [])
+    go true = (h, λ later f. f)
+    go false = h
 
 -- P holds of each of the first n slots of a hub, and of each but one
 abbrev pub Every : (ℕ → Slot → Type 0) → ℕ → Hub → Type 0

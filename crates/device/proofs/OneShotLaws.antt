@@ -24,7 +24,7 @@ use Rattle.device.specs.declared.Vector.{Vector}
 use Rattle.device.specs.Call.{Act}
 use Rattle.device.specs.Call.Act.{connect, disconnect, reset, configurationRead, configurationWrite, registerRead, registerWrite, msixRead, msixWrite, question, load, store}
 use Rattle.device.specs.Configuration.{withByte, writtenByte, configurationWritten}
-use Rattle.device.specs.Effect.{Operation, announces, registerStored, effect}
+use Rattle.device.specs.Effect.{Operation, announces, changes, registerStored, effect}
 use Rattle.device.specs.History.{Observation, deliveriesTo}
 use Rattle.device.specs.Msix.{inTable, msixWritten}
 use Rattle.device.specs.OneShot.{interrupts, turnsRegister, turnsAct, one, NothingKept}
@@ -241,9 +241,13 @@ written-control s p at zero x = refl
 written-control s p at (suc w) x = written-control s (writtenByte s p at (x % 256)) (suc at) w (x / 256)
 
 -- State store, reset and disconnect change the slot first
-pub announces-first : (P : Slot → Type 0) (who : ℕ) (slot new : Slot) → P new → First P slot (announces who new)
+pub announces-first : (P : Slot → Type 0) (who : ℕ) (slot new : Slot) → P new → First P slot (announces who slot new)
 unfolding announces
-announces-first P who slot new h = (h, tt)
+announces-first P who slot new h = go (changes (slot .peer .state) (new .peer .state))
+  where
+    go : (t : Bool) → First P new (cond t (Operation.ringOthers ∷ []) [])
+    go true = (h, tt)
+    go false = h
 
 stored-first : (who : ℕ) (slot : Slot) (r : Register) (x : ℕ)
     → First (Kept (slot .peer) (turnsRegister 0 1 (slot .peer) r x) (turnsRegister 1 0 (slot .peer) r x)) slot (registerStored who slot r x)

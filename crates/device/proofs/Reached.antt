@@ -22,7 +22,7 @@ use Rattle.device.specs.declared.Settings.{Settings}
 use Rattle.device.specs.Call.{Act, Call, call}
 use Rattle.device.specs.Call.Act.{connect, configurationWrite, registerWrite, msixWrite}
 use Rattle.device.specs.Configuration.{fields, fieldByte, configurationByte, configurationRead, masks, maskIn, maskAt, withByte, writtenByte, configurationWritten}
-use Rattle.device.specs.Effect.{Operation, announces, registerStored, effect}
+use Rattle.device.specs.Effect.{Operation, announces, changes, registerStored, effect}
 use Rattle.device.specs.History.{start, after}
 use Rattle.device.specs.Msix.{inTable, withWord, msixWritten}
 use Rattle.device.specs.Reached.{Reached, SlotShaped, SoundIsReached}
@@ -186,6 +186,12 @@ module _ (s : Settings) (a : accepted s ≡ true) where
       one true = refl
       one false = nothing-kept (hubWith s zs) (peerId i) (vector 0) (q i)
 
+  changed-lost : (t : Bool) (who : ℕ) (zs : List Slot) (region : List ℕ) → Quiet zs
+      → runAll who (world (hubWith s zs) region) (cond t (Operation.ringOthers ∷ []) []) .world .hub ≡ hubWith s zs
+  unfolding runAll run Ring.ringOthers
+  changed-lost true who zs region q = ap (λ (y : Rung). y .hub) (rings-lost (s .peers) 0 who zs q)
+  changed-lost false who zs region q = refl
+
   abbrev begun : ℕ → Slot
   begun state = record { peer = opened 0 state; entries = replicate (s .vectors) resetEntry }
 
@@ -196,14 +202,14 @@ module _ (s : Settings) (a : accepted s ≡ true) where
       record { go = λ zs i h e r. (m .go zs i h e (r .0), quiet-set zs i (begun 0) refl (r .1)) }
 
   stores-state : (v : ℕ) → v < 2 ^ 32 → Moves LeftQuiet (begun 0) (begun v)
-  unfolding effect registerAt registerStored announces runAll run Ring.ringOthers memoryOn
+  unfolding effect registerAt registerStored announces runAll run memoryOn
   stores-state v small =
       record {
         go =
             λ zs i h e r.
             let q : Quiet (set zs i (begun v)) = quiet-set zs i (begun v) refl (r .1) in (
               goes-on s a zs i h (begun 0) e (registerWrite (s .peers) 0x10 4 v) (register-allowed (begun 0) refl 0x10 v refl (omega arith)) (set zs i (begun v))
-                  (λ region. rw (whole-word v small) (ap (λ (y : Rung). y .hub) (rings-lost (s .peers) 0 i (set zs i (begun v)) q)))
+                  (λ region. rw (whole-word v small) (changed-lost (changes 0 v) i (set zs i (begun v)) _ q))
                   (r .0),
               q,
             );

@@ -6,12 +6,13 @@ use mathlib.Core.List.{List, [], _∷_, _++_, append-nil, append-assoc}
 use mathlib.Core.Path.{_≡_, refl, sym, ap, ap₂, _∙_}
 use borrow.Author.Tests.{eqb-true, eq-eqb, ne-eqb, not-false}
 use lib.Dec.{eqb}
+use lib.Seq.{sets}
 use Rattle.common.specs.Bytes.{bytes}
 use Rattle.common.proofs.TestLaws.{by-equal}
 use Rattle.device.specs.declared.Settings.{Settings}
 use Rattle.device.specs.Call.{Act, Call, call}
 use Rattle.device.specs.Call.Act.{connect, disconnect, reset, configurationRead, configurationWrite, registerRead, registerWrite, msixRead, msixWrite, question, load, store}
-use Rattle.device.specs.Effect.{Effect, Operation, announces, effect, registerStored, rungPeer, rungVector, stateValue}
+use Rattle.device.specs.Effect.{Effect, Operation, announces, changes, effect, registerStored, rungPeer, rungVector, stateValue, withState}
 use Rattle.device.specs.History.{Observation, deliveriesTo, answerTo}
 use Rattle.device.specs.Msix.{msixWritten}
 use Rattle.device.specs.Refusal.{accessOf, missing, isConnected, refusal}
@@ -20,8 +21,8 @@ use Rattle.device.specs.Ring.{peerId, vector}
 use Rattle.device.specs.SetUp.{accepted}
 use Rattle.device.specs.Sound.{sound}
 use Rattle.device.specs.Step.{Ran, ran, Outcome, refused, done, effectIn, run, runAll, stepBy, step}
-use Rattle.device.specs.Window.{Item, sentBy, sent}
-use Rattle.device.specs.World.{Slot, World, resetSlot, slotAt}
+use Rattle.device.specs.Window.{Item, wordSent, sentBy, sent}
+use Rattle.device.specs.World.{Slot, World, world, resetSlot, slotAt, withPeer}
 use Rattle.device.proofs.HistoryLaws.{Sound, Fit, Tracks, step-fit}
 use Rattle.device.proofs.KeepingLaws.{runAll-frame, ring-keeps}
 use Rattle.device.proofs.SeenLaws.{View, view, Sight, sight, heardFirst, reach, all-seen}
@@ -118,40 +119,56 @@ own-seen b a w w′ h h′ e = rw (refusal-alike b a w w′ h h′ e) (own-by b 
 
 -- Another's call.
 
-stored-told : (b who : ℕ) (slot : Slot) (r : Register) (x : ℕ) (w : World)
-    → replay b w (sentBy b who r x) ≡ toldOf b (runAll b w (reach b false (registerStored who slot r x)))
-unfolding replay tell sentBy registerStored announces reach runAll deliveriesTo
-stored-told b who slot Register.identity x w = refl
-stored-told b who slot Register.maximumPeers x w = refl
-stored-told b who slot Register.interruptControl x w = refl
-stored-told b who slot Register.doorbell x w =
+-- the State Table of a region holds a peer's State already
+abbrev pub Entered : List ℕ → ℕ → Slot → Type 0
+Entered region who slot = sets region (4 * who) (bytes 4 (slot .peer .state)) ≡ region
+
+-- a State value that changes is an item; one that does not writes what stands there
+announced-told : (b who : ℕ) (old new : Slot) (w : World) → Entered (w .region) who old
+    → replay b w (wordSent who (old .peer .state) (new .peer .state)) ≡ toldOf b (runAll b w (reach b false (announces who old new)))
+unfolding replay tell wordSent announces changes reach runAll run deliveriesTo
+announced-told b who old new w same =
+    by-equal (old .peer .state) (new .peer .state)
+    (λ (e : old .peer .state ≡ new .peer .state).
+    let kept : sets (w .region) (4 * who) (bytes 4 (new .peer .state)) ≡ w .region = rw e at same in
+    rw (eq-eqb (old .peer .state) (new .peer .state) e) (ap (λ (l : List ℕ). told (world (w .hub) l) []) (sym kept)))
+    (λ (d : old .peer .state ≡ new .peer .state → ⊥).
+    rw (ne-eqb (old .peer .state) (new .peer .state) d) (replay-one b w (Item.word who (new .peer .state))))
+
+stored-told : (b who : ℕ) (slot : Slot) (r : Register) (x : ℕ) (w : World) → Entered (w .region) who slot
+    → replay b w (sentBy b who (slot .peer .state) r x) ≡ toldOf b (runAll b w (reach b false (registerStored who slot r x)))
+unfolding replay tell sentBy registerStored reach runAll deliveriesTo
+stored-told b who slot Register.identity x w same = refl
+stored-told b who slot Register.maximumPeers x w same = refl
+stored-told b who slot Register.interruptControl x w same = refl
+stored-told b who slot Register.doorbell x w same =
     by-equal (rungPeer x .0) b
     (λ (e : rungPeer x .0 ≡ b). rw (eq-eqb (rungPeer x .0) b e, e) (replay-one b w (Item.bell (rungVector x))))
     (λ (d : rungPeer x .0 ≡ b → ⊥). rw (ne-eqb (rungPeer x .0) b d))
-stored-told b who slot Register.state x w = replay-one b w (Item.word who (stateValue x))
-stored-told b who slot Register.none x w = refl
+stored-told b who slot Register.state x w same = announced-told b who slot (withPeer slot (withState (slot .peer) (stateValue x))) w same
+stored-told b who slot Register.none x w same = refl
 
 pub sent-told : (b who : ℕ) (s : Settings) (slot : Slot) (region : List ℕ) (a : Act) (on : Bool) (w : World)
-    → missing (eqb (slot .peer .connected) 1) (accessOf a) ≡ false → Tracks on slot
-    → replay b w (sent b who on a) ≡ toldOf b (runAll b w (reach b false (effect s who slot region a .operations)))
-unfolding replay tell sent effect announces reach runAll deliveriesTo resetSlot missing accessOf
-sent-told b who s slot region connect on w m e = refl
-sent-told b who s slot region (disconnect n) on w m e = replay-one b w (Item.word who 0)
-sent-told b who s slot region (reset n) on w m e = replay-one b w (Item.word who 0)
-sent-told b who s slot region (configurationRead at k) on w m e = refl
-sent-told b who s slot region (configurationWrite at k x) on w m e = refl
-sent-told b who s slot region (registerRead at k) on w m e = refl
-sent-told b who s slot region (registerWrite n at k x) on w m e = rw (e (eqb-true (slot .peer .connected) 1 (not-false _ m))) (go on)
+    → missing (eqb (slot .peer .connected) 1) (accessOf a) ≡ false → Tracks on slot → Entered (w .region) who slot
+    → replay b w (sent b who on (slot .peer .state) a) ≡ toldOf b (runAll b w (reach b false (effect s who slot region a .operations)))
+unfolding replay tell sent effect reach runAll deliveriesTo resetSlot missing accessOf
+sent-told b who s slot region connect on w m e same = refl
+sent-told b who s slot region (disconnect n) on w m e same = announced-told b who slot (resetSlot (s .vectors) 0) w same
+sent-told b who s slot region (reset n) on w m e same = announced-told b who slot (resetSlot (s .vectors) 1) w same
+sent-told b who s slot region (configurationRead at k) on w m e same = refl
+sent-told b who s slot region (configurationWrite at k x) on w m e same = refl
+sent-told b who s slot region (registerRead at k) on w m e same = refl
+sent-told b who s slot region (registerWrite n at k x) on w m e same = rw (e (eqb-true (slot .peer .connected) 1 (not-false _ m))) (go on)
   where
-    go : (t : Bool) → replay b w (cond t (sentBy b who (registerAt at) x) []) ≡ toldOf b (runAll b w (reach b false (cond t (registerStored who slot (registerAt at) x) [])))
-    go true = stored-told b who slot (registerAt at) x w
+    go : (t : Bool) → replay b w (cond t (sentBy b who (slot .peer .state) (registerAt at) x) []) ≡ toldOf b (runAll b w (reach b false (cond t (registerStored who slot (registerAt at) x) [])))
+    go true = stored-told b who slot (registerAt at) x w same
     go false = refl
-sent-told b who s slot region (msixRead at k) on w m e = refl
-sent-told b who s slot region (msixWrite at k x) on w m e = go (memoryOn (slot .peer))
+sent-told b who s slot region (msixRead at k) on w m e same = refl
+sent-told b who s slot region (msixWrite at k x) on w m e same = go (memoryOn (slot .peer))
   where
     go : (t : Bool) → told w [] ≡ toldOf b (runAll b w (reach b false (cond t (Operation.own (msixWritten s slot at x) ∷ []) [])))
     go true = refl
     go false = refl
-sent-told b who s slot region (question at k) on w m e = refl
-sent-told b who s slot region (load at k) on w m e = refl
-sent-told b who s slot region (store at bs) on w m e = replay-one b w (Item.bytes at bs)
+sent-told b who s slot region (question at k) on w m e same = refl
+sent-told b who s slot region (load at k) on w m e same = refl
+sent-told b who s slot region (store at bs) on w m e same = replay-one b w (Item.bytes at bs)

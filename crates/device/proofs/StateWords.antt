@@ -9,7 +9,7 @@ use native.Mathlib.Omega.{arith}
 use borrow.Author.Tests.{eqb-true, leb-true, not-false}
 use lib.Dec.{eqb, leb}
 use lib.ListN.{length, getD, set, length-set, getD-replicate}
-use lib.Seq.{getD-set-same, getD-set-other, sets}
+use lib.Seq.{getD-set-same, getD-set-other, set-getD, sets}
 use Rattle.common.specs.Bytes.{byte, bytes}
 use Rattle.common.proofs.ByteLaws.{length-bytes, getD-bytes}
 use Rattle.common.proofs.TestLaws.{and-left, every-true, by-equal}
@@ -20,7 +20,7 @@ use Rattle.device.specs.declared.Settings.{Settings}
 use Rattle.device.specs.Call.{Act, Call}
 use Rattle.device.specs.Call.Act.{connect, disconnect, reset, configurationRead, configurationWrite, registerRead, registerWrite, msixRead, msixWrite, question, load, store}
 use Rattle.device.specs.Configuration.{withByte, writtenByte, configurationWritten}
-use Rattle.device.specs.Effect.{Operation, announces, registerStored, effect, withState, stateValue}
+use Rattle.device.specs.Effect.{Operation, announces, changes, registerStored, effect, withState, stateValue}
 use Rattle.device.specs.History.{start, after}
 use Rattle.device.specs.Msix.{inTable, msixWritten}
 use Rattle.device.specs.Refusal.{accessOf, present, forbidden, isConnected, refusal}
@@ -32,7 +32,7 @@ use Rattle.device.specs.Sound.{peerReset, slotSound}
 use Rattle.device.specs.Step.{run, runAll, effectIn, step}
 use Rattle.device.specs.World.{Slot, World, zeroSlot, resetSlot, slotAt, withPeer}
 use Rattle.device.proofs.HistoryLaws.{Sound, Fit, taken, taken-world, refused-world, same, small, slots-keep, start-fit, step-fit}
-use Rattle.device.proofs.KeepingLaws.{Frame, Every, Leaves}
+use Rattle.device.proofs.KeepingLaws.{Frame, Every, Leaves, announces-leaves}
 use Rattle.device.proofs.SetUpLaws.{Accepted, accepted-facts}
 use Rattle.device.proofs.SoundLaws.{absent-reset}
 use Rattle.device.proofs.StepLaws.{never}
@@ -80,9 +80,24 @@ sets-here l (b ∷ bs) at (suc m) h k =
     let next : at + suc m ≡ suc at + m = omega arith in
     ap (λ (i : ℕ). getD (sets (set l at b) (suc at) bs) i 0) next ∙ sets-here (set l at b) bs (suc at) m (omega (arith, length-set l at b)) (omega arith)
 
+sets-same : (l bs : List ℕ) (at : ℕ) → ((m : ℕ) → m < length bs → getD l (at + m) 0 ≡ getD bs m 0) → sets l at bs ≡ l
+sets-same l [] at e = refl
+sets-same l (b ∷ bs) at e =
+    let here : set l at b ≡ l = ap (λ (x : ℕ). set l at x) (sym (e 0 (omega arith)) ∙ ap (λ (i : ℕ). getD l i 0) (add-zero at)) ∙ set-getD l at 0 in
+    ap (λ (k : List ℕ). sets k (suc at) bs) here
+    ∙ sets-same l bs (suc at) (λ m h. let next : suc at + m ≡ at + suc m = omega arith in ap (λ (i : ℕ). getD l i 0) next ∙ e (suc m) (omega arith))
+
 -- The word of a peer in a region is the State of its slot.
 abbrev pub Worded : Settings → List ℕ → ℕ → Slot → Type 0
 Worded s region i slot = i < s .peers → (j : ℕ) → j < 4 → getD region (4 * i + j) 0 ≡ byte j (slot .peer .state)
+
+-- so that State, stored again, leaves the region as it is
+pub word-again : (s : Settings) (region : List ℕ) (i : ℕ) (slot : Slot) → i < s .peers → Worded s region i slot
+    → sets region (4 * i) (bytes 4 (slot .peer .state)) ≡ region
+word-again s region i slot l e =
+    let n : length (bytes 4 (slot .peer .state)) ≡ 4 = length-bytes 4 (slot .peer .state) in
+    sets-same region (bytes 4 (slot .peer .state)) (4 * i)
+    (λ m h. let k : m < 4 = omega arith in e l m k ∙ sym (getD-bytes 4 (slot .peer .state) m k))
 
 -- the region after operations
 abbrev written : List ℕ → List Operation → List ℕ
@@ -116,16 +131,28 @@ record Words (s : Settings) (who : ℕ) (slot : Slot) (region : List ℕ) (os : 
   own : Leaves (Worded s (written region os) who) slot os
 
 module _ (s : Settings) (who : ℕ) (slot : Slot) (region : List ℕ) (a : Accepted s) (room : length region ≡ total s) (small : who < s .peers) where
-  announced : (new : Slot) → Words s who slot region (announces who new)
-  unfolding announces total
+  -- whether it rings or not, the entry is written
+  entry-written : (old new : Slot) → written region (announces who old new) ≡ sets region (4 * who) (bytes 4 (new .peer .state))
+  unfolding announces
+  entry-written old new = go (changes (old .peer .state) (new .peer .state))
+    where
+      entry : List ℕ
+      entry = sets region (4 * who) (bytes 4 (new .peer .state))
+
+      go : (t : Bool) → written entry (cond t (Operation.ringOthers ∷ []) []) ≡ entry
+      go true = refl
+      go false = refl
+
+  announced : (new : Slot) → Words s who slot region (announces who slot new)
+  unfolding total
   announced new =
       let n : length (bytes 4 (new .peer .state)) ≡ 4 = length-bytes 4 (new .peer .state) in
       record {
-        others = λ i j d l h. sets-other region (bytes 4 (new .peer .state)) (4 * who) (4 * i + j) (λ m k e. omega arith);
-        own = (
-          λ l j h. sets-here region (bytes 4 (new .peer .state)) (4 * who) j (omega (arith, a .state)) (omega arith) ∙ getD-bytes 4 (new .peer .state) j h,
-          λ later h. h,
-        );
+        others = rw (entry-written slot new) (λ i j d l h. sets-other region (bytes 4 (new .peer .state)) (4 * who) (4 * i + j) (λ m k e. omega arith));
+        own =
+            rw (entry-written slot new)
+            (announces-leaves _ who slot slot new
+            (λ l j h. sets-here region (bytes 4 (new .peer .state)) (4 * who) j (omega (arith, a .state)) (omega arith) ∙ getD-bytes 4 (new .peer .state) j h));
       }
 
   stored-words : (r : Register) (x : ℕ) → Worded s region who slot → Words s who slot region (registerStored who slot r x)
@@ -200,10 +227,10 @@ module _ (s : Settings) (a : accepted s ≡ true) where
       (slots-keep s w c a f (Worded s (written (w .region) os)) (delivery-worded s (written (w .region) os)) e
       (λ i l d k j m. words .others i j d k m ∙ h i l k j m) (words .own))
 
-  step-written : (w : World) (c : Call) → Fit s w → Written s w → Written s (step w c .world)
+  pub step-written : (w : World) (c : Call) → Fit s w → Written s w → Written s (step w c .world)
   step-written w c f h = by-equal (refusal w c) 0 (taken-written w c f h) (λ n. subst (Written s) (sym (refused-world w c n)) h)
 
-  start-written : Written s (start s)
+  pub start-written : Written s (start s)
   unfolding start freshHub resetSlot total
   start-written i l k j m =
       rw (getD-replicate (s .peers) i (resetSlot (s .vectors) 0) zeroSlot l)

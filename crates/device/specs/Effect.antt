@@ -1,9 +1,10 @@
 -- What an accepted call gives back and changes. An effect sees the settings, the caller's own slot and the region, and asks for
 -- primitive operations; only the rings among these reach other peers.
 use Prim.Native.Nat.{ℕ, _*_, _/_, _%_, _^_}
-use mathlib.Core.Bool.{cond}
+use mathlib.Core.Bool.{Bool, cond, not}
 use mathlib.Core.List.{List, [], _∷_}
 use lib.Bits.{bitAnd}
+use lib.Dec.{eqb}
 use lib.ListN.{take, drop}
 use Rattle.common.specs.Bytes.{bytes}
 use Rattle.device.specs.declared.Peer.{Peer}
@@ -44,10 +45,17 @@ reads value = record { value = value; answer = noSection; loaded = []; operation
 abbrev pub does : List Operation → Effect
 does operations = record { value = 0; answer = noSection; loaded = []; operations = operations }
 
--- State store, reset and disconnect: the own slot, the four bytes of the State Table entry, then the rings
-unfoldable pub announces : ℕ → Slot → List Operation
-announces who slot =
-    Operation.own slot ∷ Operation.write (4 * who) (bytes 4 (slot .peer .state)) ∷ Operation.ringOthers ∷ []
+-- C-11: 'where the State value changes', from what the peer's State register held to what it takes
+unfoldable pub changes : (old new : ℕ) → Bool
+changes old new = not (eqb old new)
+
+-- State store, reset and disconnect: the own slot and the four bytes of the State Table entry in any case, then the rings, 'only
+-- where the State value changes' (C-11)
+unfoldable pub announces : ℕ → (old new : Slot) → List Operation
+announces who old new =
+    Operation.own new
+    ∷ Operation.write (4 * who) (bytes 4 (new .peer .state))
+    ∷ cond (changes (old .peer .state) (new .peer .state)) (Operation.ringOthers ∷ []) []
 
 abbrev pub withState : Peer → ℕ → Peer
 withState p state =
@@ -81,13 +89,13 @@ registerStored who slot Register.interruptControl value =
     Operation.own (withPeer slot (withInterrupt (slot .peer) (bitAnd value 1))) ∷ []
 registerStored who slot Register.doorbell value = Operation.ringOne (rungPeer value) (rungVector value) ∷ []
 registerStored who slot Register.state value =
-    announces who (withPeer slot (withState (slot .peer) (stateValue value)))
+    announces who slot (withPeer slot (withState (slot .peer) (stateValue value)))
 registerStored who slot Register.none value = []
 
 unfoldable pub effect : Settings → ℕ → Slot → List ℕ → Act → Effect
 effect s who slot region connect = does (Operation.own (resetSlot (s .vectors) 1) ∷ [])
-effect s who slot region (disconnect n) = does (announces who (resetSlot (s .vectors) 0))
-effect s who slot region (reset n) = does (announces who (resetSlot (s .vectors) 1))
+effect s who slot region (disconnect n) = does (announces who slot (resetSlot (s .vectors) 0))
+effect s who slot region (reset n) = does (announces who slot (resetSlot (s .vectors) 1))
 effect s who slot region (configurationRead at w) = reads (Configuration.configurationRead s (slot .peer) at w)
 effect s who slot region (configurationWrite at w x) =
     does (Operation.own (withPeer slot (Configuration.configurationWritten s (slot .peer) at w x)) ∷ [])

@@ -10,20 +10,20 @@ use Rattle.device.specs.declared.Vector.{Vector}
 use Rattle.device.specs.Call.{Act, Call}
 use Rattle.device.specs.Call.Act.{connect, disconnect, reset, configurationRead, configurationWrite, registerRead, registerWrite, msixRead, msixWrite, question, load, store}
 use Rattle.device.specs.Configuration.{within}
-use Rattle.device.specs.Effect.{rungVector, rungPeer, stateValue}
+use Rattle.device.specs.Effect.{rungVector, rungPeer, stateValue, changes}
 use Rattle.device.specs.History.{start, after, observed, spacesOf}
 use Rattle.device.specs.Refusal.{refusal}
 use Rattle.device.specs.Registers.{Register, registerAt}
 use Rattle.device.specs.SetUp.{accepted}
 use Rattle.device.specs.Step.{step}
-use Rattle.device.specs.World.{World}
+use Rattle.device.specs.World.{World, slotAt}
 
 pub data Item : Type 0 where
   -- (a) a call by B or a connect, disconnect or reset of B, with its arguments and lent lengths
   own : Act → Item
   -- (b) the vector of another's Doorbell store with t = B
   bell : Vector → Item
-  -- (c) a State value set by another, with that id
+  -- (c) a State value set by another where it changes (C-11), with that id
   word : (who value : ℕ) → Item
   -- (d) another's shared store
   bytes : (offset : ℕ) → List ℕ → Item
@@ -49,43 +49,52 @@ unfoldable pub memoryBit : ℕ → List Call → Bool
 memoryBit who [] = false
 memoryBit who (c ∷ past) = cond (eqb (c .who) who) (memoryAfter (c .act) (memoryBit who past)) (memoryBit who past)
 
--- what a store to a register sends to B
-unfoldable pub sentBy : ℕ → ℕ → Register → ℕ → List Item
-sentBy b who Register.identity x = []
-sentBy b who Register.maximumPeers x = []
-sentBy b who Register.interruptControl x = []
-sentBy b who Register.doorbell x = cond (eqb (rungPeer x .0) b) (Item.bell (rungVector x) ∷ []) []
-sentBy b who Register.state x = Item.word who (stateValue x) ∷ []
-sentBy b who Register.none x = []
+-- (c) 'holds changed values only' (C-11): the value that an id's State takes, where it held another
+unfoldable pub wordSent : (who old new : ℕ) → List Item
+wordSent who old new = cond (changes old new) (Item.word who new ∷ []) []
 
--- what another's accepted call sends to B
-unfoldable pub sent : ℕ → ℕ → Bool → Act → List Item
-sent b who on connect = []
-sent b who on (disconnect n) = Item.word who 0 ∷ []
-sent b who on (reset n) = Item.word who 0 ∷ []
-sent b who on (configurationRead at w) = []
-sent b who on (configurationWrite at w x) = []
-sent b who on (registerRead at w) = []
-sent b who on (registerWrite n at w x) = cond on (sentBy b who (registerAt at) x) []
-sent b who on (msixRead at w) = []
-sent b who on (msixWrite at w x) = []
-sent b who on (question at n) = []
-sent b who on (load at n) = []
-sent b who on (store at bs) = Item.bytes at bs ∷ []
+-- what a store to a register sends to B, given the State of the peer that stores
+unfoldable pub sentBy : ℕ → ℕ → ℕ → Register → ℕ → List Item
+sentBy b who old Register.identity x = []
+sentBy b who old Register.maximumPeers x = []
+sentBy b who old Register.interruptControl x = []
+sentBy b who old Register.doorbell x = cond (eqb (rungPeer x .0) b) (Item.bell (rungVector x) ∷ []) []
+sentBy b who old Register.state x = wordSent who old (stateValue x)
+sentBy b who old Register.none x = []
 
--- the items of one call, given the accepted calls before it and whether it is accepted itself
-unfoldable pub items : ℕ → List Call → Bool → Call → List Item
-items b past taken c =
+-- what another's accepted call sends to B, given that peer's Command bit 1 and State
+unfoldable pub sent : ℕ → ℕ → Bool → ℕ → Act → List Item
+sent b who on old connect = []
+sent b who on old (disconnect n) = wordSent who old 0
+sent b who on old (reset n) = wordSent who old 0
+sent b who on old (configurationRead at w) = []
+sent b who on old (configurationWrite at w x) = []
+sent b who on old (registerRead at w) = []
+sent b who on old (registerWrite n at w x) = cond on (sentBy b who old (registerAt at) x) []
+sent b who on old (msixRead at w) = []
+sent b who on old (msixWrite at w x) = []
+sent b who on old (question at n) = []
+sent b who on old (load at n) = []
+sent b who on old (store at bs) = Item.bytes at bs ∷ []
+
+-- the items of one call, given the accepted calls before it, whether it is accepted itself, and the State that its id had
+unfoldable pub items : ℕ → List Call → Bool → ℕ → Call → List Item
+items b past taken old c =
     cond (eqb (c .who) b) (Item.own (c .act) ∷ [])
-    (cond taken (sent b (c .who) (memoryBit (c .who) past) (c .act)) [])
+    (cond taken (sent b (c .who) (memoryBit (c .who) past) old (c .act)) [])
 
 abbrev pub isAccepted : World → Call → Bool
 isAccepted w c = eqb (refusal w c) 0
 
+-- the State of a call's id before the call, in the history that the call belongs to
+abbrev pub stateBefore : World → Call → ℕ
+stateBefore w c = slotAt (w .hub) (c .who) .peer .state
+
 unfoldable pub windowFrom : ℕ → List Call → World → List Call → List Item
 windowFrom b past w [] = []
 windowFrom b past w (c ∷ cs) =
-    items b past (isAccepted w c) c ++ windowFrom b (cond (isAccepted w c) (c ∷ past) past) (step w c .world) cs
+    items b past (isAccepted w c) (stateBefore w c) c
+    ++ windowFrom b (cond (isAccepted w c) (c ∷ past) past) (step w c .world) cs
 
 unfoldable pub window : ℕ → Settings → List Call → List Item
 window b s cs = windowFrom b [] (start s) cs

@@ -27,6 +27,7 @@ use Rattle.deliveries.specs.declared.Deliveries.{Deliveries}
 use Rattle.deliveries.specs.Listed.{Lists}
 use Rattle.deliveries.proofs.ListedLaws.{none-lists}
 use Rattle.words.specs.Layout.{hubOf}
+use Rattle.hub.specs.declared.Restarted.{Restarted}
 use Rattle.hub.specs.declared.Served.{Served}
 use Rattle.hub.specs.Admission.{bothLent, Admitted, Ready}
 use Rattle.hub.specs.Promises.{Restarts, Runs, Serves, Told}
@@ -69,12 +70,17 @@ module _ (ws after region : List ℕ) (id : ℕ) (d : Deliveries) where
   unfolding runAll run
   runs-ring t v e list = record { left = ap (λ (h : Hub). world h region) e; list = rw append-nil list }
 
-  pub runs-announce : (after′ vs : List ℕ) → after′ ≡ sets region (4 * id) vs → hubOf after ≡ Ring.ringOthers id (hubOf ws) .hub →
-      Lists (hubOf after) d (Ring.ringOthers id (hubOf ws) .deliveries) →
-      Runs ws after region after′ id (Operation.write (4 * id) vs ∷ Operation.ringOthers ∷ []) d
+  pub runs-others : hubOf after ≡ Ring.ringOthers id (hubOf ws) .hub → Lists (hubOf after) d (Ring.ringOthers id (hubOf ws) .deliveries) →
+      Runs ws after region region id (Operation.ringOthers ∷ []) d
   unfolding runAll run
-  runs-announce after′ vs s e list =
-      record { left = ap₂ (λ (h : Hub) (l : List ℕ). world h l) e s; list = rw append-nil list }
+  runs-others e list = record { left = ap (λ (h : Hub). world h region) e; list = rw append-nil list }
+
+-- bytes of the region first, then what leaves the region alone
+pub runs-write-then : (ws after region after′ : List ℕ) (id at : ℕ) (vs : List ℕ) (os : List Operation) (d : Deliveries) →
+    after′ ≡ sets region at vs → Runs ws after after′ after′ id os d → Runs ws after region after′ id (Operation.write at vs ∷ os) d
+unfolding runAll run
+runs-write-then ws after region after′ id at vs os d e r =
+    record { left = ap (λ (l : List ℕ). world (hubOf after) l) e ∙ rw e at (r .left); list = rw e at (r .list) }
 
 -- the own slot first, then the rest
 pub runs-own-then : (ws mid after region after′ : List ℕ) (id : ℕ) (slot : Slot) (os : List Operation) (d : Deliveries) →
@@ -107,25 +113,28 @@ serves-accepted ws after region after′ c r e value a runs =
       kept = λ p. absurd (p (ap (λ (x : Reply). x .number) a));
     }
 
+-- a peer's slot at reset leaves hub and region ready for the rest of the call
+pub restarts-ready : (ws mid region : List ℕ) (records id connected : ℕ) (n : Restarted)
+    → Restarts ws mid (length region) records id connected n → n .number ≡ 0 → Ready mid region id
+restarts-ready ws mid region records id connected n own z =
+    ready-kept ws mid region id (resetSlot (hubOf ws .settings .vectors) connected) (ready ws region records id (own .admitted z)) (own .slot z)
+
 -- reset and disconnect: whichever act it is, the slot, the State Table entry and the rings are together its effect
-pub restarts-served : (ws mid after region after′ : List ℕ) (records id connected n : ℕ) (act : Act) (r : Served)
-    → Restarts ws mid region after′ records id connected n → Told mid after id n r → lentTo act ≡ Lent.regionAndTable records → accessOf act ≡ Access.none
-    → ((s : Settings) (who : ℕ) (slot : Slot) (bytes : List ℕ) → effect s who slot bytes act ≡ does (announces who (resetSlot (s .vectors) connected)))
+pub restarts-served : (ws mid after region after′ : List ℕ) (records id connected : ℕ) (n : Restarted) (act : Act) (r : Served)
+    → Restarts ws mid (length region) records id connected n → Told mid after region after′ id n r → lentTo act ≡ Lent.regionAndTable records → accessOf act ≡ Access.none
+    → ((s : Settings) (who : ℕ) (slot : Slot) (bytes : List ℕ) → effect s who slot bytes act ≡ does (announces who slot (resetSlot (s .vectors) connected)))
     → Serves ws after region after′ (call id act) r
 unfolding announces resetSlot
 restarts-served ws mid after region after′ records id connected n act r own told lent access is =
     let number = served-refusal (hubOf ws) region id records act lent access ∙ sym (own .number) in
-    by-equal n 0
+    by-equal (n .number) 0
     (λ z.
     serves-accepted ws after region after′ (call id act) r (number ∙ z) (sym (ap (λ (e : Effect). e .value) (is _ _ _ _))) (told .reply ∙ ap refusedBy z)
-    (rw is
-    (runs-own-then ws mid after region after′ id _ _ (r .list) (own .slot z)
-    (runs-announce mid after region id (r .list) after′ _ (own .table z) (told .left z) (told .list z)))))
+    (rw is (runs-own-then ws mid after region after′ id _ _ (r .list) (own .slot z) (rw (own .changed z) at (told .runs z)))))
     (λ some.
     let same = told .refused some in
-    let kept = own .refused some in
-    let e : after ≡ ws = same .0 ∙ kept .0 in
-    rw (e, kept .1) (serves-refused ws region (call id act) n r number some (told .reply) (same .1)))
+    let e : after ≡ ws = same .0 ∙ own .refused some in
+    rw (e, same .1) (serves-refused ws region (call id act) (n .number) r number some (told .reply) (same .2)))
 
 -- a store to any other offset than the three registers' does nothing
 pub nothing-stored : (who : ℕ) (slot : Slot) (at x : ℕ) → (at ≡ 0x08 → ⊥) → (at ≡ 0x0C → ⊥) → (at ≡ 0x10 → ⊥) →

@@ -1,26 +1,25 @@
 -- What the public calls promise: their answers, and what they leave, are the parts of `step`.
 use Prim.Native.Nat.{ℕ, _*_}
-use mathlib.Core.List.{List}
+use mathlib.Core.Bool.{Bool, cond}
+use mathlib.Core.List.{List, [], _∷_}
 use mathlib.Core.Path.{_≡_}
 use lib.Dec.{eqb}
 use lib.ListN.{length, replicate}
-use lib.Seq.{sets}
 use Rattle.common.specs.Bytes.{bytes}
 use Rattle.common.specs.Tests.{first}
 use Rattle.device.specs.declared.Reply.{Reply}
 use Rattle.device.specs.declared.SectionReply.{SectionReply}
 use Rattle.device.specs.declared.Settings.{Settings}
 use Rattle.device.specs.Call.{Act, Call, call}
-use Rattle.device.specs.Effect.{Operation}
-use Rattle.device.specs.Ring
+use Rattle.device.specs.Effect.{Operation, changes}
 use Rattle.device.specs.SetUp.{setUpRefusal, hubAfterSetUp, regionAfterSetUp}
 use Rattle.device.specs.Step.{runAll, step, replyOf, sectionReplyOf}
-use Rattle.device.specs.World.{resetSlot, withSlot, world}
+use Rattle.device.specs.World.{resetSlot, slotAt, withSlot, world}
 use Rattle.deliveries.specs.declared.Deliveries.{Deliveries}
 use Rattle.deliveries.specs.Listed.{Lists}
-use Rattle.gate.specs.RingOutcome.{Usable}
+use Rattle.hub.specs.declared.Restarted.{Restarted}
 use Rattle.hub.specs.declared.Served.{Served}
-use Rattle.hub.specs.Admission.{admission, bothLent}
+use Rattle.hub.specs.Admission.{admission, bothLent, Admitted}
 use Rattle.words.specs.Layout.{hubWords, hubOf}
 
 -- A read: the region is not lent, and the answer is the same whatever it holds.
@@ -75,6 +74,11 @@ pub record Runs (hub after region regionAfter : List ℕ) (id : ℕ) (operations
   pub left : world (hubOf after) regionAfter ≡ runAll id (world (hubOf hub) region) operations .world
   pub list : Lists (hubOf after) d (runAll id (world (hubOf hub) region) operations .deliveries)
 
+-- What State store, reset and disconnect run after the own slot: the State Table entry takes the value, and the others are rung if it
+-- is a change.
+abbrev pub entered : (id state : ℕ) → Bool → List Operation
+entered id state changed = Operation.write (4 * id) (bytes 4 state) ∷ cond changed (Operation.ringOthers ∷ []) []
+
 -- A call that is lent the region and a delivery table, whose length is among the call's arguments: hub and region afterwards are
 -- the step's, the list is the step's deliveries in order, its records made from the hub afterwards, and a refusal leaves each word
 -- as it was.
@@ -84,18 +88,17 @@ pub record Serves (hub after region regionAfter : List ℕ) (c : Call) (r : Serv
   pub list : Lists (hubOf after) (r .list) (step (world (hubOf hub) region) c .deliveries)
   pub kept : (r .reply .number ≡ 0 → ⊥) → after ≡ hub
 
--- Reset and disconnect, which differ in whether the peer stays, up to the rings: a refusal changes nothing, else the peer's slot is at
--- its reset values and its State Table entry is 0.
-pub record Restarts (hub after region regionAfter : List ℕ) (records id connected r : ℕ) : Type 0 where
-  pub number : r ≡ first (admission (hubOf hub) (bothLent (length region) records) id)
-  pub refused : (r ≡ 0 → ⊥) → (after ≡ hub) × (regionAfter ≡ region)
-  pub usable : r ≡ 0 → Usable after
-  pub slot : r ≡ 0 → hubOf after ≡ withSlot (hubOf hub) id (resetSlot (hubOf hub .settings .vectors) connected)
-  pub table : r ≡ 0 → regionAfter ≡ sets region (4 * id) (bytes 4 0)
+-- Reset and disconnect, which differ in whether the peer stays, up to the State Table entry: a refusal changes nothing, else the
+-- peer's slot is at its reset values, and State changes where it was not 0.
+pub record Restarts (hub after : List ℕ) (room records id connected : ℕ) (r : Restarted) : Type 0 where
+  pub number : r .number ≡ first (admission (hubOf hub) (bothLent room records) id)
+  pub refused : (r .number ≡ 0 → ⊥) → after ≡ hub
+  pub admitted : r .number ≡ 0 → Admitted hub (bothLent room records) id
+  pub slot : r .number ≡ 0 → hubOf after ≡ withSlot (hubOf hub) id (resetSlot (hubOf hub .settings .vectors) connected)
+  pub changed : r .number ≡ 0 → r .changed ≡ changes (slotAt (hubOf hub) id .peer .state) 0
 
--- The rings of such a call: none where its number is a refusal's, else those at every other id.
-pub record Told (hub after : List ℕ) (id number : ℕ) (r : Served) : Type 0 where
-  pub reply : r .reply ≡ record { number = number; value = 0 }
-  pub refused : (number ≡ 0 → ⊥) → (after ≡ hub) × (r .list .count ≡ 0)
-  pub left : number ≡ 0 → hubOf after ≡ Ring.ringOthers id (hubOf hub) .hub
-  pub list : number ≡ 0 → Lists (hubOf after) (r .list) (Ring.ringOthers id (hubOf hub) .deliveries)
+-- The rest of such a call: nothing where its number is a refusal's, else the entry and the rings.
+pub record Told (hub after region regionAfter : List ℕ) (id : ℕ) (own : Restarted) (r : Served) : Type 0 where
+  pub reply : r .reply ≡ record { number = own .number; value = 0 }
+  pub refused : (own .number ≡ 0 → ⊥) → (after ≡ hub) × (regionAfter ≡ region) × (r .list .count ≡ 0)
+  pub runs : own .number ≡ 0 → Runs hub after region regionAfter id (entered id 0 (own .changed)) (r .list)

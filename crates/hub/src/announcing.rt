@@ -1,21 +1,17 @@
 // Register writes, reset and disconnect: the calls that may ring other peers.
+use super::Restarted;
 use super::Served;
 use super::refusals;
 use deliveries::Deliveries;
 ghost use mathlib.Core.Path.{_≡_};
-ghost use mathlib.Core.List.{[], _∷_};
-ghost use Prim.Native.Nat.{_*_};
-ghost use Rattle.common.specs.Bytes.{bytes};
 ghost use Rattle.device.specs.Call.{call};
 ghost use Rattle.device.specs.Call;
 ghost use Rattle.device.specs.Effect.{registerStored};
-ghost use Rattle.device.specs.Effect;
 ghost use Rattle.device.specs.Registers.{registerAt};
 ghost use Rattle.device.specs.World.{slotAt};
 ghost use Rattle.words.specs.Layout.{hubOf};
-ghost use Rattle.gate.specs.RingOutcome.{Usable};
 ghost use Rattle.hub.specs.Admission.{Ready};
-ghost use Rattle.hub.specs.Promises.{Restarts, Runs, Serves, Told};
+ghost use Rattle.hub.specs.Promises.{entered, Restarts, Runs, Serves, Told};
 
 // An answer without deliveries.
 fn silent(number: u32) -> Served
@@ -34,12 +30,15 @@ fn served(list: Deliveries) -> Served
     Served { reply, list }
 }
 
-// The State Table entry of a peer takes a value, then vector 0 is rung at every other id.
-fn announce(hub: &mut [u32], region: &mut [u8], id: u64, state: u32) -> Deliveries
+// The State Table entry of a peer takes a value in any case; only where State has changed is vector 0 rung at every other id.
+fn announce(hub: &mut [u32], region: &mut [u8], id: u64, state: u32, changed: bool) -> Deliveries
     requires { ⌜ Ready (now hub) (now region) id ⌝ }
-    ensures { λ r. ⌜ Runs (now (hub .entry)) (now (hub .exit)) (now (region .entry)) (now (region .exit)) id (Effect.Operation.write (4 * id) (bytes 4 state) ∷ Effect.Operation.ringOthers ∷ []) r ⌝ }
+    ensures { λ r. ⌜ Runs (now (hub .entry)) (now (hub .exit)) (now (region .entry)) (now (region .exit)) id (entered id state changed) r ⌝ }
 {
     memory::put_state(region, id as usize, state);
+    if !changed {
+        return deliveries::none();
+    }
     deliveries::ring_others(hub, id)
 }
 
@@ -68,7 +67,8 @@ fn store_register(
         0x10 => {
             let q = registers::with_state(p, value);
             words::put_peer(hub, id as usize, q);
-            announce(hub, region, id, q.state)
+            let changed = registers::state_changes(p.state, q.state);
+            announce(hub, region, id, q.state, changed)
         }
         _ => deliveries::none(),
     }
@@ -97,42 +97,46 @@ pub fn register_write(
     served(store_register(hub, region, id, offset, value))
 }
 
-// Reset (1) and disconnect (0) up to the rings: the number of a refusal, or 0 and the peer's registers and entries at their reset
-// values, its State 0. What is rung is listed by the calls themselves, so that no list is handed through here.
-fn restart(hub: &mut [u32], region: &mut [u8], records: u64, id: u64, connected: u32) -> u32
-    ensures { λ r. ⌜ Restarts (now (hub .entry)) (now (hub .exit)) (now (region .entry)) (now (region .exit)) records id connected r ⌝ }
+// Reset (1) and disconnect (0) up to the State Table entry: a refusal changes nothing, else the peer's registers and entries are at
+// their reset values. What is rung is listed by the calls themselves, so that no list is handed through here.
+fn restart(hub: &mut [u32], room: u64, records: u64, id: u64, connected: u32) -> Restarted
+    ensures { λ r. ⌜ Restarts (now (hub .entry)) (now (hub .exit)) room records id connected r ⌝ }
 {
-    let lent = refusals::both_lent(region.len() as u64, records);
+    let lent = refusals::both_lent(room, records);
     let number = refusals::admitted(hub, lent, id);
     if number != 0 {
-        return number;
+        return Restarted {
+            number,
+            changed: false,
+        };
     }
+    let old = words::peer(hub, id as usize).state;
     words::put_reset(hub, id as usize, connected);
-    memory::put_state(region, id as usize, 0);
-    0
+    let changed = registers::state_changes(old, 0);
+    Restarted { number: 0, changed }
 }
 
-// Every other id is rung, but for a refusal.
-fn told(hub: &mut [u32], id: u64, number: u32) -> Served
-    requires { ⌜ (number ≡ 0 → Usable (now hub)) ⌝ }
-    ensures { λ r. ⌜ Told (now (hub .entry)) (now (hub .exit)) id number r ⌝ }
+// The entry is 0 and the others are rung if that is a change, but for a refusal.
+fn told(hub: &mut [u32], region: &mut [u8], id: u64, own: Restarted) -> Served
+    requires { ⌜ (own .number ≡ 0 → Ready (now hub) (now region) id) ⌝ }
+    ensures { λ r. ⌜ Told (now (hub .entry)) (now (hub .exit)) (now (region .entry)) (now (region .exit)) id own r ⌝ }
 {
-    if number != 0 {
-        return silent(number);
+    if own.number != 0 {
+        return silent(own.number);
     }
-    served(deliveries::ring_others(hub, id))
+    served(announce(hub, region, id, 0, own.changed))
 }
 
 pub fn reset(hub: &mut [u32], region: &mut [u8], records: u64, id: u64) -> Served
     ensures { λ r. ⌜ Serves (now (hub .entry)) (now (hub .exit)) (now (region .entry)) (now (region .exit)) (call id (Call.Act.reset records)) r ⌝ }
 {
-    let number = restart(hub, region, records, id, 1);
-    told(hub, id, number)
+    let own = restart(hub, region.len() as u64, records, id, 1);
+    told(hub, region, id, own)
 }
 
 pub fn disconnect(hub: &mut [u32], region: &mut [u8], records: u64, id: u64) -> Served
     ensures { λ r. ⌜ Serves (now (hub .entry)) (now (hub .exit)) (now (region .entry)) (now (region .exit)) (call id (Call.Act.disconnect records)) r ⌝ }
 {
-    let number = restart(hub, region, records, id, 0);
-    told(hub, id, number)
+    let own = restart(hub, region.len() as u64, records, id, 0);
+    told(hub, region, id, own)
 }

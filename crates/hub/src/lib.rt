@@ -29,6 +29,12 @@ pub struct Served {
     pub list: Deliveries,
 }
 
+// Reset and disconnect up to the State Table entry: a refusal's number or 0, and whether State changes.
+struct Restarted {
+    number: u32,
+    changed: bool,
+}
+
 // What the host lends to a call: whether the region is lent, and its length; whether a delivery table is, and its records.
 struct Lending {
     regional: bool,

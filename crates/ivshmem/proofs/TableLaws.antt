@@ -1,23 +1,25 @@
 -- The deliveries of an accepted call have room in a table that is not refused, and what is handed out is the step's.
-use Prim.Native.Nat.{ℕ, zero, suc, _≤_, _<_}
+use Prim.Native.Nat.{ℕ, zero, suc, _*_, _≤_, _<_}
 use mathlib.Core.Bool.{Bool, true, false, cond}
-use mathlib.Core.List.{List, [], append-nil}
+use mathlib.Core.List.{List, [], _∷_, append-nil}
 use mathlib.Core.Path.{_≡_, refl, sym, ap, _∙_}
 use native.Mathlib.Nat.{le-trans}
 use native.Mathlib.Omega.{arith}
 use lib.Dec.{ltb}
 use lib.ListN.{length, getD}
+use lib.Seq.{sets}
 use borrow.Author.Tests.{ltb-false, not-false}
+use Rattle.common.specs.Bytes.{bytes}
 use Rattle.common.proofs.TestLaws.{first-none}
 use Rattle.device.specs.declared.Delivery.{Delivery}
 use Rattle.device.specs.declared.Reply.{Reply}
 use Rattle.common.specs.Tests.{row}
 use Rattle.device.specs.Call.{Act, Call, call}
-use Rattle.device.specs.Effect.{announces, registerStored, effect, rungPeer, rungVector}
+use Rattle.device.specs.Effect.{Operation, announces, changes, registerStored, effect, rungPeer, rungVector}
 use Rattle.device.specs.Refusal.{Lent, lentTo, accessOf, checks, shortTable, refusal}
 use Rattle.device.specs.Registers.{Register, registerAt, memoryOn}
 use Rattle.device.specs.Step.{Outcome, run, runAll, effectIn, step}
-use Rattle.device.specs.World.{Hub, Slot, World, world, slotAt, resetSlot}
+use Rattle.device.specs.World.{Hub, Slot, World, world, slotAt, withSlot, resetSlot}
 use Rattle.device.proofs.SetUpLaws.{accepted-facts}
 use Rattle.device.proofs.StepLaws.{accepted-effect, refused-changes-nothing, step-number}
 use Rattle.soundness.proofs.WholeLaws.{sound-numbers}
@@ -31,9 +33,16 @@ use Rattle.ivshmem.specs.Promises.{HandsOut}
 
 -- at most one ring at each id, in each of the lists of operations that ring
 module _ (who : ℕ) (w : World) (some : 0 < w .hub .settings .peers) where
-  few-announced : (slot : Slot) → length (runAll who w (announces who slot) .deliveries) ≤ w .hub .settings .peers
+  few-announced : (old new : Slot) → length (runAll who w (announces who old new) .deliveries) ≤ w .hub .settings .peers
   unfolding announces runAll run
-  few-announced slot = rw append-nil (others-kept who _ .few)
+  few-announced old new = go (changes (old .peer .state) (new .peer .state))
+    where
+      region : List ℕ
+      region = sets (w .region) (4 * who) (bytes 4 (new .peer .state))
+
+      go : (t : Bool) → length (runAll who (world (withSlot (w .hub) who new) region) (cond t (Operation.ringOthers ∷ []) []) .deliveries) ≤ w .hub .settings .peers
+      go true = rw append-nil (others-kept who _ .few)
+      go false = omega arith
 
   few-stored : (slot : Slot) (r : Register) (value : ℕ) → length (runAll who w (registerStored who slot r value) .deliveries) ≤ w .hub .settings .peers
   unfolding registerStored runAll run
@@ -41,7 +50,7 @@ module _ (who : ℕ) (w : World) (some : 0 < w .hub .settings .peers) where
   few-stored slot Register.maximumPeers value = omega arith
   few-stored slot Register.interruptControl value = omega arith
   few-stored slot Register.doorbell value = rw append-nil (le-trans (ring-kept (w .hub) (rungPeer value) (rungVector value) .few) some)
-  few-stored slot Register.state value = few-announced _
+  few-stored slot Register.state value = few-announced slot _
   few-stored slot Register.none value = omega arith
 
   few-written : (on : Bool) (slot : Slot) (r : Register) (value : ℕ) → length (runAll who w (cond on (registerStored who slot r value) []) .deliveries) ≤ w .hub .settings .peers
@@ -88,11 +97,11 @@ register-write-room offset width value =
 
 pub reset-room : Roomy Act.reset
 unfolding lentTo effect
-reset-room = roomy Act.reset (λ n. refl) (λ h region id n some. few-announced id (world h region) some (resetSlot (h .settings .vectors) 1))
+reset-room = roomy Act.reset (λ n. refl) (λ h region id n some. few-announced id (world h region) some (slotAt h id) (resetSlot (h .settings .vectors) 1))
 
 pub disconnect-room : Roomy Act.disconnect
 unfolding lentTo effect
-disconnect-room = roomy Act.disconnect (λ n. refl) (λ h region id n some. few-announced id (world h region) some (resetSlot (h .settings .vectors) 0))
+disconnect-room = roomy Act.disconnect (λ n. refl) (λ h region id n some. few-announced id (world h region) some (slotAt h id) (resetSlot (h .settings .vectors) 0))
 
 -- a refused step delivers nothing
 refused-nothing : (w : World) (c : Call) → (step w c .number ≡ 0 → ⊥) → step w c .deliveries ≡ []

@@ -6,7 +6,7 @@ use device::Vector;
 ghost use mathlib.Core.Path.{_≡_};
 ghost use Prim.Native.Nat.{_<_, _^_};
 ghost use lib.Bits.{bitAnd};
-ghost use Rattle.device.specs.Effect.{withState, stateValue, rungPeer, rungVector};
+ghost use Rattle.device.specs.Effect.{withState, stateValue, changes, rungPeer, rungVector};
 ghost use Rattle.device.specs.Ring.{withInterrupt};
 ghost use Rattle.device.specs.Registers.{memoryOn, registerAt, registerValue, registerRead};
 
@@ -60,6 +60,13 @@ pub fn with_state(p: Peer, value: u32) -> Peer
     let mut q = p;
     q.state = value & 0xFFFFFFFF;
     q
+}
+
+// Whether a State that was `old` and is `new` has changed (C-11): only then are the others rung.
+pub fn state_changes(old: u32, new: u32) -> bool
+    ensures { λ r. ⌜ r ≡ changes old new ⌝ }
+{
+    old != new
 }
 
 // A Doorbell store's vector, bits 0-15, and target, bits 16-31.

@@ -147,6 +147,12 @@ fn second_sale(hub: &mut Hub, region: &mut Region, log: Log) -> Log {
     acts::rearm(hub, region, next)
 }
 
+// The planner saves twice, and the others are rung once.
+fn saves(hub: &mut Hub, region: &mut Region, log: Log) -> Log {
+    let next = acts::save(hub, region, log);
+    acts::save(hub, region, next)
+}
+
 // The deliveries that each guest got.
 fn report(log: Log) {
     log::summary(log, TOUCH);
@@ -161,11 +167,12 @@ pub fn first(hub: &mut Hub, region: &mut Region) {
     log = basket(hub, region, log);
     log = refused_store(hub, region, log);
     log = sale(hub, region, log);
+    log = saves(hub, region, log);
     log = acts::reset(hub, region, log, PLANNER);
     report(log);
 }
 
-// The second tap is lost; a press after the guest has re-armed is delivered.
+// The second tap is lost; a press after the guest has re-armed is delivered. The touch guest, whose State is 0, leaves unheard.
 pub fn second(hub: &mut Hub, region: &mut Region) {
     let mut log = prepare(hub, region, 1);
     log = basket(hub, region, log);

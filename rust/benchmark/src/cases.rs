@@ -17,8 +17,9 @@ const PAGE: u64 = 4096;
 /// A row of the table.
 pub struct Case {
     pub name: String,
-    /// Calls that differ a little, and the hub that each finds.
-    pub calls: Vec<Call>,
+    /// Calls that differ a little, and the hub that each finds. The rounds take two lists in turn, which are the same but for State
+    /// stores: each of these finds the value of the other list, so that it is a change.
+    pub calls: [Vec<Call>; 2],
     pub hubs: Vec<Vec<u32>>,
     pub region_bytes: usize,
     /// Whether a call can be made again on the hub that it left, with an answer of the same kind.
@@ -32,9 +33,10 @@ pub struct Case {
 
 impl Case {
     fn new(name: &str, settings: &Settings, make: impl Fn(u64) -> Call) -> Case {
+        let calls: Vec<Call> = (0..ROUND as u64).map(make).collect();
         Case {
             name: name.into(),
-            calls: (0..ROUND as u64).map(make).collect(),
+            calls: [calls.clone(), calls],
             hubs: vec![booted(settings, |_| true); ROUND],
             region_bytes: settings.total().expect("a small region"),
             repeatable: true,
@@ -54,6 +56,12 @@ impl Case {
 
     fn once(self) -> Case {
         Case { repeatable: false, ..self }
+    }
+
+    /// State stores by these ids, of which each changes State.
+    fn changing(name: &str, settings: &Settings, id: impl Fn(u64) -> u64) -> Case {
+        let calls = [0, ROUND as u64].map(|turn| (0..ROUND as u64).map(|k| state_store(id(k), turn + k)).collect());
+        Case { calls, ..Case::new(name, settings, |k| state_store(id(k), k)) }
     }
 
     /// Every call finds this hub changed by a call with its id.
@@ -197,8 +205,8 @@ fn accepted(size: Size) -> Vec<Case> {
     vec![
         Case::new("set up, region of 4096 bytes", &small, |k| Call::SetUp(Settings { protocol: k as u16, ..small })),
         case("connect", &|id, _| Call::Connect { id }).after(|k| Call::Disconnect { id: size.peer(k) }).once(),
-        case("disconnect, all others delivered", &|id, _| Call::Disconnect { id }).delivering(size.others()).once(),
-        case("reset, all others delivered", &|id, _| Call::Reset { id }).delivering(size.others()),
+        case("disconnect, State 0", &|id, _| Call::Disconnect { id }).once(),
+        case("reset, State 0", &|id, _| Call::Reset { id }),
         case("configuration read, 4 bytes", &|id, k| {
             let offset = one_of(&[0x00, 0x04, 0x08, 0x10, 0x14, 0x2c, 0x40, 0x44, 0x50, 0x58, 0x60, 0x64], k);
             Call::ConfigurationRead { id, offset, width: 4 }
@@ -230,13 +238,19 @@ fn rings(size: Size) -> Vec<Case> {
     };
     let one = Case {
         hubs: vec![booted(&settings, |id| id == receiver); ROUND],
-        ..Case::new("State store, one other delivered", &settings, |k| state_store(k % receiver, k))
+        ..Case::changing("State store, one other delivered", &settings, |k| k % receiver)
     };
-    let all = Case::new("State store, all others delivered", &settings, |k| state_store(size.peer(k), k));
+    let stored = |k: u64| state_store(size.peer(k), k);
+    let leaving = |name: &str, make: &dyn Fn(u64) -> Call| {
+        Case::new(name, &settings, |k| make(size.peer(k))).after(stored).delivering(size.others()).once()
+    };
     vec![
         Case::new("doorbell, delivered", &settings, doorbell).delivering(1),
+        Case::new("State store, no change", &settings, stored).after(stored),
         one.delivering(1),
-        all.delivering(size.others()),
+        Case::changing("State store, all others delivered", &settings, |k| size.peer(k)).delivering(size.others()),
+        leaving("reset, all others delivered", &|id| Call::Reset { id }),
+        leaving("disconnect, all others delivered", &|id| Call::Disconnect { id }),
     ]
 }
 
@@ -254,7 +268,7 @@ pub fn growth_by_vectors() -> Vec<Case> {
 
 fn grown(size: Size) -> Case {
     let name = format!("State store at {} by {}, all {} delivered", size.peers, size.vectors, size.others());
-    Case::new(&name, &size.settings(), |k| state_store(size.peer(k), k)).delivering(size.others())
+    Case::changing(&name, &size.settings(), |k| size.peer(k)).delivering(size.others())
 }
 
 /// Every call refused as late as it can be, and check 10 alone.

@@ -70,6 +70,8 @@ impl Row {
 /// The memory that a device works on, and what it has left in it.
 struct Bench<D: Device> {
     hubs: Vec<<D::Hub as Form>::Owned>,
+    /// Which list of calls is next.
+    turn: usize,
     region: Vec<u8>,
     table: [Delivery; MAX_PEERS],
     buffer: [u8; SHARED_BYTES],
@@ -95,6 +97,7 @@ impl<D: Device> Bench<D> {
     fn new(case: &Case) -> Bench<D> {
         let mut bench = Bench {
             hubs: Vec::new(),
+            turn: 0,
             region: vec![0; case.region_bytes],
             table: [Delivery::default(); MAX_PEERS],
             buffer: std::array::from_fn(|at| at as u8 + 1),
@@ -110,7 +113,9 @@ impl<D: Device> Bench<D> {
 
     // The answer is looked at where it stands: copied, it would cost what no host has to pay.
     fn round(&mut self, case: &Case, mut answered: impl FnMut(&Answer)) {
-        for (hub, call) in self.hubs.iter_mut().zip(&case.calls) {
+        let calls = &case.calls[self.turn];
+        self.turn = 1 - self.turn;
+        for (hub, call) in self.hubs.iter_mut().zip(calls) {
             let lending = Lending { region: &mut self.region, table: &mut self.table, buffer: &mut self.buffer };
             answered(&D::perform(black_box(hub.borrow_mut()), black_box(call), lending));
         }

@@ -80,7 +80,7 @@ mod painted {
     pub fn depths() -> Vec<Depth> {
         let mut deepest = FUNCTIONS.map(|(name, _)| Depth { name, bytes: 0 });
         for case in cases::SIZES.map(cases::all).iter().flatten().filter(|case| !case.empty) {
-            for (k, call) in case.calls.iter().enumerate() {
+            for (k, call) in case.calls[0].iter().enumerate() {
                 let bytes = case_depth(case, k);
                 let depth = &mut deepest[call.kind()];
                 depth.bytes = depth.bytes.max(bytes);
@@ -97,7 +97,7 @@ mod painted {
             buffer: [0; SHARED_BYTES],
             section: [0; 5],
         };
-        let call = &case.calls[k];
+        let call = &case.calls[0][k];
         let arguments = arguments(call, &mut memory);
         // SAFETY: the function and its arguments belong together, as `ivshmem.h` declares them.
         unsafe { depth(FUNCTIONS[call.kind()].1, &arguments) }

@@ -110,15 +110,14 @@ impl<F: State + ?Sized, T: Soundness<F>> Yardstick<F, T> {
         (offset, width): (u64, u64),
         value: u32,
     ) -> Result<usize, u32> {
-        let mut caller = Self::admit(hub, &Lent::both(region, table), id)?;
+        let caller = Self::admit(hub, &Lent::both(region, table), id)?;
         rules::bar_access(offset, width)?;
         if !caller.memory_space() {
             return Ok(0);
         }
         match offset {
             register::INTERRUPT_CONTROL => {
-                caller.registers.interrupt = value & 1;
-                hub.put_registers(caller.id, &caller.registers);
+                hub.put_registers(caller.id, &Registers { interrupt: value & 1, ..caller.registers });
                 Ok(0)
             }
             register::DOORBELL => {
@@ -127,8 +126,7 @@ impl<F: State + ?Sized, T: Soundness<F>> Yardstick<F, T> {
                 Ok(1)
             }
             register::STATE => {
-                caller.registers.state = value;
-                hub.put_registers(caller.id, &caller.registers);
+                hub.put_registers(caller.id, &Registers { state: value, ..caller.registers });
                 Ok(announce(hub, region, table, &caller, value))
             }
             _ => Ok(0),
@@ -196,7 +194,8 @@ impl<F: State + ?Sized, T: Soundness<F>> Yardstick<F, T> {
     }
 }
 
-/// Vector 0 of every other peer is rung, once the State Table has the value; answers the count of deliveries.
+/// The State Table takes the value that the caller's State now has; where it was another, vector 0 of every other peer is rung.
+/// Answers the count of deliveries.
 fn announce(
     hub: &mut (impl State + ?Sized),
     region: &mut [u8],
@@ -205,6 +204,9 @@ fn announce(
     value: u32,
 ) -> usize {
     region[4 * caller.id..][..4].copy_from_slice(&value.to_le_bytes());
+    if value == caller.registers.state {
+        return 0;
+    }
     hub.ring_others(&caller.numbers, caller.id, table)
 }
 

@@ -71,6 +71,7 @@ fn main() -> Result<(), Refusal> {
     let ring = register::doorbell(PeerId(3), Vector(1));
     host.write("rings vector 1 of peer 3", PeerId(0), register::DOORBELL, ring)?;
     host.write("sets its state to 5", PeerId(1), register::STATE, 5)?;
+    host.write("sets it to 5 again, which is no change", PeerId(1), register::STATE, 5)?;
 
     // Peer 3 asks for one-shot interrupts: the next delivery switches its Interrupt Control off.
     host.hub.configuration_write(PeerId(3), 0x43, 1, 1)?;

@@ -164,7 +164,7 @@ pub fn register_read(hub: &[u32], id: u64, offset: u64, width: u64) -> Reply {
     unsafe { ivshmem_register_read(hub.as_ptr(), hub.len(), id, offset, width) }
 }
 
-/// Writes the register region; a store to Doorbell or State rings. Refused with 10, 2, 11, 3, 4, 6, 7 or 8.
+/// Writes the register region; a store to Doorbell rings, and one that changes State. Refused with 10, 2, 11, 3, 4, 6, 7 or 8.
 pub fn register_write(
     hub: &mut [u32],
     region: &mut [u8],

@@ -69,8 +69,8 @@ impl<'a> Hub<'a> {
         done(raw::connect(self.words, id(peer)))
     }
 
-    /// The peer leaves: its registers take their reset values, its State Table entry is 0, then vector 0 is rung at every
-    /// other peer.
+    /// The peer leaves: its registers take their reset values, and its State Table entry is 0. If its State was not 0, vector
+    /// 0 is then rung at every other peer.
     ///
     /// # Errors
     /// [`Refusal::UnsoundHub`], [`Refusal::BadRegion`], [`Refusal::ShortTable`], [`Refusal::NoSuchPeer`] or
@@ -85,8 +85,8 @@ impl<'a> Hub<'a> {
         filled(counted, table)
     }
 
-    /// Resets a peer that stays connected: its registers take their reset values, its State Table entry is 0, then vector 0
-    /// is rung at every other peer.
+    /// Resets a peer that stays connected: its registers take their reset values, and its State Table entry is 0. If its State
+    /// was not 0, vector 0 is then rung at every other peer.
     ///
     /// # Errors
     /// As for [`disconnect`](Hub::disconnect).
@@ -126,7 +126,7 @@ impl<'a> Hub<'a> {
     }
 
     /// Writes 4 bytes of the peer's register region (BAR 0); with Command bit 1 off it does nothing. A store to Doorbell may
-    /// deliver one interrupt, a store to State one to each other peer.
+    /// deliver one interrupt, a store to State one to each other peer; a store of the value that State holds rings nobody.
     ///
     /// # Errors
     /// As for [`configuration_read`](Hub::configuration_read), and [`Refusal::BadRegion`] or [`Refusal::ShortTable`].

@@ -111,7 +111,7 @@ pub mod register {
     pub const INTERRUPT_CONTROL: u64 = 0x08;
     /// Doorbell; a store rings a peer.
     pub const DOORBELL: u64 = 0x0c;
-    /// The peer's state word; a store rings vector 0 of every other peer.
+    /// The peer's state word; a store that changes it rings vector 0 of every other peer.
     pub const STATE: u64 = 0x10;
 
     /// The value to store to the Doorbell to ring a peer's vector.

@@ -195,16 +195,22 @@ fn deliveries() {
     assert_eq!(ring, 0x0001_0000);
     assert_eq!(host.write(ZERO, register::DOORBELL, ring), Ok(&[delivery(ONE, 0x41)][..]));
     assert_eq!(host.write(ZERO, register::STATE, 9), Ok(&[delivery(ONE, 0x41)][..]));
+    assert_eq!(host.write(ZERO, register::STATE, 9), Ok(&[][..]));
 
     let table = &mut host.table[..];
     assert_eq!(host.hub.reset(&mut host.region, table, ZERO), Ok(&[delivery(ONE, 0x41)][..]));
     assert_eq!(host.hub.register_read(ZERO, register::STATE, 4), Ok(0xffff_ffff));
     assert_eq!(host.region[..4], [0; 4]);
     host.switch_on(ZERO, 0x40);
+    assert_eq!(host.write(ONE, register::STATE, 7), Ok(&[delivery(ZERO, 0x40)][..]));
     let table = &mut host.table[..];
     assert_eq!(host.hub.disconnect(&mut host.region, table, ONE), Ok(&[delivery(ZERO, 0x40)][..]));
     assert_eq!(host.hub.connect(ZERO), Err(Refusal::Connected));
     assert_eq!(host.hub.connect(ONE), Ok(()));
+    let table = &mut host.table[..];
+    assert_eq!(host.hub.reset(&mut host.region, table, ONE), Ok(&[][..]));
+    let table = &mut host.table[..];
+    assert_eq!(host.hub.disconnect(&mut host.region, table, ONE), Ok(&[][..]));
 }
 
 #[test]

@@ -84,6 +84,20 @@ pub const SIZES: [(&str, u64); 20] = [
     ("set-ups of 65 peers refused with 1", 50),
     ("set-ups of 17 vectors refused with 1", 50),
 ];
+/// What is counted of the calls that store State, and how often it must be seen in a million calls of random histories.
+pub const STATES: [(&str, u64); 10] = [
+    ("State stores that change State", 5_000),
+    ("State stores that do not", 3_000),
+    ("resets that change State", 700),
+    ("resets that do not", 1_000),
+    ("disconnects that change State", 700),
+    ("disconnects that do not", 1_000),
+    ("State changes that are delivered", 5_000),
+    ("stores of the State that the entry does not hold yet", 150),
+    ("stores to State of what its entry holds already", 150),
+    ("resets and disconnects with State 0 and another entry", 40),
+];
+
 /// How many of [`SIZES`], from the first on, are calls on large hubs.
 pub const ON_LARGE_HUBS: usize = 5;
 
@@ -135,6 +149,8 @@ pub struct Counts {
     pub lost_otherwise: u64,
     /// In the order of [`SIZES`].
     pub sizes: [u64; SIZES.len()],
+    /// In the order of [`STATES`].
+    pub states: [u64; STATES.len()],
     /// In the order of [`WORDS`].
     pub words: [u64; WORDS.len()],
     /// The numbers of peers and vectors of hubs that a call was taken on.
@@ -153,6 +169,9 @@ impl Counts {
         self.calls[call.kind()][answer.number as usize] += 1;
         self.several += u64::from(answer.count > 1);
         for (count, holds) in self.sizes.iter_mut().zip(at_sizes(call, answer, model)) {
+            *count += u64::from(holds);
+        }
+        for (count, holds) in self.states.iter_mut().zip(at_states(call, answer, model)) {
             *count += u64::from(holds);
         }
         for (count, holds) in self.words.iter_mut().zip(at_words(call, answer, model)) {
@@ -175,6 +194,12 @@ impl Counts {
         }
     }
 
+    /// The counts of [`SIZES`], [`STATES`] and [`WORDS`], each with its name and its least.
+    fn named(&self) -> impl Iterator<Item = (&(&'static str, u64), u64)> {
+        let sizes = SIZES.iter().zip(self.sizes);
+        sizes.chain(STATES.iter().zip(self.states)).chain(WORDS.iter().zip(self.words))
+    }
+
     fn add_lost(&mut self, blocks: &[Block]) {
         match (blocks, BLOCKS.iter().position(|(block, _)| blocks.first() == Some(block))) {
             ([_], Some(at)) => self.lost_alone[at] += 1,
@@ -182,8 +207,8 @@ impl Counts {
         }
     }
 
-    /// What is not covered `least` times, or of [`SIZES`] and [`WORDS`] as often as they ask, or should never have been
-    /// answered, in words; empty is good.
+    /// What is not covered `least` times, or of [`SIZES`], [`STATES`] and [`WORDS`] as often as they ask, or should never have
+    /// been answered, in words; empty is good.
     #[must_use]
     pub fn gaps(&self, least: u64) -> Vec<String> {
         let mut gaps = Vec::new();
@@ -205,8 +230,7 @@ impl Counts {
         let others = [("delivered", self.delivered), ("one-shot", self.one_shot), ("several", self.several)];
         let few = rings.chain(others).filter(|&(_, count)| count < least);
         gaps.extend(few.map(|(name, count)| format!("rings, {name}: {count}")));
-        let named = SIZES.iter().zip(self.sizes).chain(WORDS.iter().zip(self.words));
-        let few = named.filter(|((_, least), count)| count * 1_000_000 < least * self.total());
+        let few = self.named().filter(|((_, least), count)| count * 1_000_000 < least * self.total());
         gaps.extend(few.map(|((name, _), count)| format!("{name}: {count}")));
         gaps
     }
@@ -242,6 +266,27 @@ fn at_sizes(call: &Call, answer: &Answer, model: &Model) -> [bool; SIZES.len()] 
         matches!(call, Call::SetUp(Settings { peers: PEERS, vectors: VECTORS, .. })) && taken,
         matches!(call, Call::SetUp(Settings { peers: TOO_MANY_PEERS, .. })) && answer.number == 1,
         matches!(call, Call::SetUp(Settings { vectors: TOO_MANY_VECTORS, .. })) && answer.number == 1,
+    ]
+}
+
+/// Which of [`STATES`] a call is.
+fn at_states(call: &Call, answer: &Answer, model: &Model) -> [bool; STATES.len()] {
+    let Some(met) = model.met else { return [false; STATES.len()] };
+    let (changes, agrees) = (met.changes(), met.entry == met.register);
+    let store = matches!(call, Call::RegisterWrite { .. });
+    let reset = matches!(call, Call::Reset { .. });
+    let disconnect = matches!(call, Call::Disconnect { .. });
+    [
+        store && changes,
+        store && !changes,
+        reset && changes,
+        reset && !changes,
+        disconnect && changes,
+        disconnect && !changes,
+        changes && answer.count > 0,
+        store && !changes && !agrees,
+        store && changes && met.value == met.entry,
+        !store && !changes && !agrees,
     ]
 }
 
@@ -327,7 +372,7 @@ impl fmt::Display for Counts {
             writeln!(f, "rings lost only for {name:<20} {count:>8}")?;
         }
         writeln!(f, "rings lost for several reasons: {}", self.lost_otherwise)?;
-        for ((name, _), count) in SIZES.iter().zip(self.sizes).chain(WORDS.iter().zip(self.words)) {
+        for ((name, _), count) in self.named() {
             writeln!(f, "{name:<60} {count:>8}")?;
         }
         write!(f, "sizes of hubs that calls were taken on: {}", self.hubs.len())

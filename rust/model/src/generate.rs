@@ -6,7 +6,7 @@ use ivshmem::{MAX_HUB_WORDS, Settings};
 
 use crate::call::{Call, Event, KINDS, Lengths, USUAL_RECORDS};
 use crate::hub::{Hub, MAX_PEERS, MAX_VECTORS, Numbers};
-use crate::layout::hub_words;
+use crate::layout::{hub_words, state_word};
 use crate::random::Random;
 use crate::world::{LONGEST_REGION, MOST_RECORDS};
 
@@ -70,6 +70,7 @@ impl Generator {
             2..3 => self.plan_large_hub(),
             3..9 => self.plan_damage(hub, total),
             9..10 => self.plan_set_up(),
+            10..14 => self.plan_other_state(hub),
             _ => {}
         }
         if let Some(event) = self.planned() {
@@ -201,7 +202,7 @@ impl Generator {
         let draw = if self.careless { 39 } else { self.random.below(40) };
         let (offset, width, value) = match draw {
             0..22 => (0x0c, 4, self.doorbell(hub, id)),
-            22..26 => (0x10, 4, self.value()),
+            22..26 => (0x10, 4, self.state(hub, id)),
             26..37 => (0x08, 4, self.random.pick(&[1, 1, 1, 1, 1, 1, 1, 1, 1, 0, u32::MAX, 2])),
             _ => {
                 let (offset, width) = self.bar_access(&REGISTERS);
@@ -227,6 +228,12 @@ impl Generator {
     fn value(&mut self) -> u32 {
         let any = self.random.word();
         self.random.pick(&[0, 1, 2, 3, u32::MAX, 0x8000_0000, any, any, any])
+    }
+
+    /// A third of the time what State holds already, which is no change.
+    fn state(&mut self, hub: &Hub, id: u64) -> u32 {
+        let (other, held) = (self.value(), state_of(hub, id));
+        self.random.pick(&[other, other, held])
     }
 
     fn doorbell(&mut self, hub: &Hub, id: u64) -> u32 {
@@ -429,25 +436,59 @@ impl Generator {
         let settings = good_settings(&mut self.random);
         self.planned.push_back(Call::SetUp(settings).into());
         let whole = self.random.chance(1, 4);
+        let announcer = self.random.below(settings.peers);
+        if whole {
+            self.plan_state(announcer);
+        }
         for id in 0..settings.peers {
             if !whole && self.random.chance(1, 6) {
                 continue;
             }
-            self.planned.push_back(Call::Connect { id }.into());
+            if !whole || id != announcer {
+                self.planned.push_back(Call::Connect { id }.into());
+            }
             // Where there are many, half of them have no driver: boots are long, and a history should have other calls too.
             if whole || settings.peers <= FEW_PEERS || self.random.chance(1, 2) {
                 self.plan_boot(id, settings.vectors, whole);
             }
         }
         if whole {
-            self.plan_rings_at_all(settings.peers);
+            self.plan_rings_at_all(settings.peers, announcer);
         }
+    }
+
+    /// A peer joins and stores to State while nobody can be rung yet, so that a later reset changes it.
+    fn plan_state(&mut self, id: u64) {
+        let value = self.random.word() | 1;
+        self.planned.push_back(Call::Connect { id }.into());
+        self.planned.push_back(Call::ConfigurationWrite { id, offset: 0x04, width: 2, value: 0x0002 }.into());
+        self.planned.push_back(Call::RegisterWrite { id, offset: 0x10, width: 4, value }.into());
+    }
+
+    /// A State register is no longer what the State Table has for it, as broken memory or another region would make it; then the
+    /// peer stores what the register or what the entry holds, or is reset or disconnected.
+    fn plan_other_state(&mut self, hub: &Hub) {
+        let id = self.id(hub);
+        if hub.peers.get(id as usize).is_none_or(|peer| peer.connected != 1) {
+            return;
+        }
+        let (held, one) = (state_of(hub, id), 1 << self.random.below(32));
+        let bits = match self.random.pick(&[held, one]) {
+            0 => one,
+            bits => bits,
+        };
+        self.planned.push_back(Event::Flip { word: state_word(id), bits });
+        let value = self.random.pick(&[held, held ^ bits]);
+        self.planned.push_back(match self.random.below(4) {
+            0 => Call::Reset { id }.into(),
+            1 => Call::Disconnect { id }.into(),
+            _ => Call::RegisterWrite { id, offset: 0x10, width: 4, value }.into(),
+        });
     }
 
     /// With everything on, all the others are rung, which disarms those that are one-shot: on a table that is one record too
     /// short, then on one that is just long enough.
-    fn plan_rings_at_all(&mut self, peers: u64) {
-        let id = self.random.below(peers);
+    fn plan_rings_at_all(&mut self, peers: u64, id: u64) {
         let call = match self.random.below(3) {
             0 => Call::RegisterWrite { id, offset: 0x10, width: 4, value: self.value() },
             1 => Call::Reset { id },
@@ -530,6 +571,11 @@ impl Generator {
 /// A hub's peers, clamped to what a hub can have, since its words may hold any number.
 fn peers_of(hub: &Hub) -> u64 {
     hub.numbers.peers.clamp(1, PEERS)
+}
+
+/// A peer's State, or 0 where there is no such peer.
+fn state_of(hub: &Hub, id: u64) -> u32 {
+    hub.peers.get(id as usize).map_or(0, |peer| peer.state)
 }
 
 fn vectors_of(hub: &Hub) -> u64 {

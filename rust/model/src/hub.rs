@@ -320,7 +320,7 @@ impl Hub {
         Ok(())
     }
 
-    /// "Reset: all registers to reset values, entry 0, then vector 0 rung at the others."
+    /// "Reset: all registers to reset values, entry 0, then vector 0 rung at the others", since C-11 only if State was not 0.
     ///
     /// # Errors
     /// 10, 2, 11, 3 or 4.
@@ -338,9 +338,17 @@ impl Hub {
 
     fn leave(&mut self, region: &mut [u8], records: usize, id: u64, after: Peer) -> Result<Vec<Ring>, Refused> {
         self.refuse(&Request::new(id, Access::None).region(region.len()).records(records))?;
+        let old = self.peers[id as usize].state;
         self.restart(id, after);
-        set_table_entry(region, id, 0);
-        Ok(self.ring_others(id))
+        Ok(self.announce(region, id, old))
+    }
+
+    /// The State Table entry takes the peer's State, and the others are rung "only where the State value changes" (C-11) from
+    /// what the register held.
+    fn announce(&mut self, region: &mut [u8], id: u64, old: u32) -> Vec<Ring> {
+        let state = self.peers[id as usize].state;
+        set_table_entry(region, id, state);
+        if state == old { Vec::new() } else { self.ring_others(id) }
     }
 
     /// The 256 bytes of the peer's configuration space.
@@ -444,9 +452,9 @@ impl Hub {
             // Doorbell: v = bits 0-15, t = bits 16-31; a peer may ring itself.
             0x0c => Ok(vec![self.ring(u64::from(value >> 16), u64::from(value & 0xffff))]),
             0x10 => {
+                let old = peer.state;
                 peer.state = value;
-                set_table_entry(region, id, value);
-                Ok(self.ring_others(id))
+                Ok(self.announce(region, id, old))
             }
             _ => Ok(Vec::new()),
         }

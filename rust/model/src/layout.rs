@@ -66,6 +66,12 @@ fn columns(numbers: &Numbers) -> [Range<usize>; 4] {
     })
 }
 
+/// The word of a peer's State.
+#[must_use]
+pub fn state_word(id: u64) -> usize {
+    PEERS_AT + PEER_WORDS * id as usize + PEER_WORDS - 1
+}
+
 fn decode_peer(row: &[u32; PEER_WORDS]) -> Peer {
     let [connected, command, bar0, bar1, privileged, message, interrupt, state] = *row;
     Peer { connected, command, bar0, bar1, privileged, message, interrupt, state }

@@ -3,7 +3,7 @@
 use std::fmt;
 
 use ivshmem::raw::{self, Counted, Reply};
-use ivshmem::{Delivery, Section};
+use ivshmem::{Delivery, Section, register};
 
 use crate::call::Call;
 use crate::hub::{Hub, MAX_PEERS, MAX_VECTORS, Numbers, Refused, Ring};
@@ -96,6 +96,42 @@ pub struct Model {
     pub records: usize,
     /// The words that were lent.
     pub handed: Handed,
+    /// In an accepted State store, reset or disconnect, what it met.
+    pub met: Option<Met>,
+}
+
+/// What a call that stores State meets: the value, and what the register and the State Table entry hold before.
+#[derive(Clone, Copy)]
+pub struct Met {
+    pub value: u32,
+    pub register: u32,
+    pub entry: u32,
+}
+
+impl Met {
+    /// Nothing where the call does not get as far as that.
+    #[must_use]
+    pub fn of(hub: &Hub, call: &Call, region: &[u8]) -> Option<Met> {
+        let (id, value) = match *call {
+            Call::RegisterWrite { id, offset: register::STATE, value, .. } => (id, value),
+            Call::Reset { id } | Call::Disconnect { id } => (id, 0),
+            _ => return None,
+        };
+        let peer = hub.peers.get(id as usize)?;
+        let hidden = matches!(call, Call::RegisterWrite { .. }) && peer.command & 1 << 1 == 0;
+        let entry = *region.get(4 * id as usize..)?.first_chunk()?;
+        (peer.connected == 1 && !hidden).then_some(Met {
+            value,
+            register: peer.state,
+            entry: u32::from_le_bytes(entry),
+        })
+    }
+
+    /// Whether State changes.
+    #[must_use]
+    pub fn changes(&self) -> bool {
+        self.value != self.register
+    }
 }
 
 /// Words that a call is lent.
@@ -164,6 +200,7 @@ impl Subject for Model {
             _ => return self.refused(Refused(vec![10])),
         };
         let Lent { words, region, table, buffer } = lent;
+        let met = Met::of(&hub, call, region);
         let outcome = self.step(&mut hub, call, fit, region, table.len(), buffer);
         self.numbers = hub.numbers;
         match outcome {
@@ -176,6 +213,7 @@ impl Subject for Model {
             }
             Ok(mut answer) => {
                 words.copy_from_slice(&encode(&hub));
+                self.met = met;
                 answer.count = hand_out(&self.rings, table);
                 answer
             }

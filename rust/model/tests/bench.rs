@@ -4,6 +4,7 @@ use ivshmem::{Delivery, PeerId, Settings, Vector, hub_words};
 use model::call::{Call, Event, Lengths};
 use model::compare::Pair;
 use model::count::Counts;
+use model::layout::state_word;
 use model::subject::{Answer, Library};
 
 struct Bench(Pair<Library>);
@@ -130,7 +131,33 @@ fn whole_list() {
     assert_eq!(bench.register(1, 0x10, 5), [to(0, 0x40), to(3, 0x43)]);
     assert_eq!(bench.0.world().region()[4..8], [5, 0, 0, 0]);
     assert_eq!(bench.answer(Call::RegisterRead { id: 3, offset: 0x08, width: 4 }).value, 0);
-    assert_eq!(bench.register(1, 0x10, 5), [to(0, 0x40)]);
+    // "the second store of 5 delivers nothing" (C-11)
+    assert_eq!(bench.register(1, 0x10, 5), []);
+    assert_eq!(bench.register(1, 0x10, 6), [to(0, 0x40)]);
+}
+
+/// C-11: a State store, a reset and a disconnect ring only where the peer's State register changes. The State Table entry takes the
+/// value in any case, and what it held before does not matter.
+#[test]
+fn state_that_changes_and_that_does_not() {
+    let to_zero = Delivery { address: 0xfee0_0000, payload: 0x40, target: PeerId(0), vector: Vector(0) };
+    let store = Call::RegisterWrite { id: 1, offset: 0x10, width: 4, value: 5 };
+    for (call, value) in [(store, 5), (Call::Reset { id: 1 }, 0), (Call::Disconnect { id: 1 }, 0)] {
+        for (register, entry) in [(0, 0), (0, 5), (5, 0), (5, 5), (0x0100_0005, 5), (5, 0x0100_0005)] {
+            let mut bench = Bench::new(four_peers(2), &[0, 1]);
+            bench.switch_on(0, 0x40);
+            bench.switch_on(1, 0x41);
+            bench.register(1, 0x10, entry);
+            bench
+                .0
+                .apply(&Event::Flip { word: state_word(1), bits: entry ^ register }, &mut Counts::default())
+                .unwrap();
+            let answer = bench.answer(call.clone());
+            let rung: &[Delivery] = if register == value { &[] } else { &[to_zero] };
+            assert_eq!(bench.0.world().table()[..answer.count], *rung, "{call} with State {register}, entry {entry}");
+            assert_eq!(bench.0.world().region()[4..8], value.to_le_bytes());
+        }
+    }
 }
 
 #[test]
@@ -184,8 +211,14 @@ fn all_others_of_sixty_four() {
         assert_eq!(bench.register(id, 0x10, 5), others(id));
         assert_eq!(bench.0.world().region()[4 * id as usize..][..4], [5, 0, 0, 0]);
     }
-    for (call, sender) in [(Call::Reset { id: 63 }, 63), (Call::Disconnect { id: 63 }, 63)] {
-        for (records, number, delivered) in [(63, 11, vec![]), (64, 0, others(sender))] {
+    // A reset leaves State 0, so that the disconnect of another peer is the next that rings.
+    let without = |gone: u16, sender| others(sender).into_iter().filter(move |to| to.target.0 != gone).collect();
+    for (call, rung) in [
+        (Call::Reset { id: 63 }, others(63)),
+        (Call::Disconnect { id: 63 }, vec![]),
+        (Call::Disconnect { id: 31 }, without(63, 31)),
+    ] {
+        for (records, number, delivered) in [(63, 11, vec![]), (64, 0, rung)] {
             let answer = bench.answer(Event::Call(call.clone(), Lengths { records, ..Lengths::USUAL }));
             assert_eq!(answer.number, number);
             assert_eq!(bench.0.world().table()[..answer.count], delivered);

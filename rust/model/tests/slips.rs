@@ -9,7 +9,7 @@ use model::compare::{self, Failure};
 use model::hub::{Block, Hub, Numbers, Ring};
 use model::layout::{decode, decode_numbers, encode, hub_words};
 use model::one_shot;
-use model::subject::{Answer, Lent, Model, Subject};
+use model::subject::{Answer, Lent, Met, Model, Subject};
 
 /// A model and what goes wrong with it.
 struct Wrong<F> {
@@ -213,6 +213,50 @@ fn leaves_the_table_entry_at_reset() {
             let before = lent.region.to_vec();
             let answer = model.perform(call, again(&mut lent));
             if let Call::Reset { .. } = call {
+                lent.region.copy_from_slice(&before);
+            }
+            answer
+        }
+    });
+}
+
+/// The model on a hub whose peer's State is first made what the slip says, from what the call meets.
+fn with_another_state(slip: fn(&Met) -> u32, model: &mut Model, call: &Call, mut lent: Lent<'_>) -> Answer {
+    let before = lent.words.to_vec();
+    if let (Some(mut hub), Some(id)) = (decode(lent.words), call.peer())
+        && let Some(met) = Met::of(&hub, call, lent.region)
+    {
+        hub.peers[id as usize].state = slip(&met);
+        lent.words.copy_from_slice(&encode(&hub));
+    }
+    let answer = model.perform(call, again(&mut lent));
+    if answer.number != 0 {
+        lent.words.copy_from_slice(&before);
+    }
+    answer
+}
+
+#[test]
+fn rings_though_state_stays() {
+    is_found("a State that stays the same rings", 9, || {
+        |model: &mut Model, call: &Call, lent: Lent<'_>| with_another_state(|met| !met.value, model, call, lent)
+    });
+}
+
+#[test]
+fn compares_with_the_state_table() {
+    is_found("the State Table entry is compared and not the register", 11, || {
+        |model: &mut Model, call: &Call, lent: Lent<'_>| with_another_state(|met| met.entry, model, call, lent)
+    });
+}
+
+#[test]
+fn leaves_the_entry_where_state_stays() {
+    is_found("a State that stays the same is not written to its entry", 6, || {
+        |model: &mut Model, call: &Call, mut lent: Lent<'_>| {
+            let before = lent.region.to_vec();
+            let answer = model.perform(call, again(&mut lent));
+            if model.met.is_some_and(|met| !met.changes()) {
                 lent.region.copy_from_slice(&before);
             }
             answer

@@ -4,7 +4,7 @@ use borrow.Author.Needs.{needs}
 use Rattle.device.specs.Call.{Act}
 use Rattle.device.specs.Effect.{effect}
 use Rattle.device.specs.Refusal.{lentTo, accessOf}
-use Rattle.hub.proofs.RunLaws.{restarts-served}
+use Rattle.hub.proofs.RunLaws.{restarts-ready, restarts-served}
 use Rattle.hub.proofs.announcing.reset.Statement.{statement}
 use Rattle.hub.proofs.announcing.reset.Tie as tie
 
@@ -12,7 +12,9 @@ restart-requires : tie.Need-restart-requires
 restart-requires c κs = search needs
 
 told-requires : tie.Need-told-requires
-told-requires c κs = c .before .before .before .before .before .restart .ensures .usable
+told-requires c κs =
+    let a = c .before .before .before .before .before .before .before .before .args in
+    restarts-ready (a .hub .now) _ (a .region .now) (a .records) (a .id) _ _ (c .before .before .before .before .restart .ensures)
 
 same-length : tie.Need-same-length
 same-length c = search needs
@@ -24,7 +26,7 @@ returns : tie.Need-returns
 unfolding lentTo accessOf effect
 returns c =
     let a = c .before .before .before .before .before .before .before .before .before .before .before .before .before .args in
-    restarts-served (a .hub .now) _ _ (a .region .now) _ (a .records) (a .id) _ _ (Act.reset (a .records)) _ (c .before .before .before .before .before .before .before .before .restart .ensures) (c .before .before .told .ensures) refl refl (λ s who slot bytes. refl)
+    restarts-served (a .hub .now) _ _ (a .region .now) _ (a .records) (a .id) _ _ (Act.reset (a .records)) _ (c .before .before .before .before .before .before .before .before .before .restart .ensures) (c .before .before .before .before .told .ensures) refl refl (λ s who slot bytes. refl)
 
 pub reset-spec : {M : Type 1} → statement M
 reset-spec = tie.close (tie.spec restart-requires told-requires same-length same-length-2 returns)

@@ -1,9 +1,8 @@
--- `hub::announcing::restart` meets its contract: the slot and the State Table entry of an admitted peer are there.
-use mathlib.Core.Path.{refl, sym, _∙_}
+-- `hub::announcing::restart` meets its contract: the slot of an admitted peer is there, and its State is read before.
+use mathlib.Core.Path.{refl, sym, ap, _∙_}
 use borrow.Author.Needs.{needs}
-use Rattle.device.specs.World.{resetSlot}
-use Rattle.words.specs.Layout.{hubOf}
-use Rattle.hub.proofs.RunLaws.{ready, ready-kept}
+use Rattle.device.specs.Effect.{changes}
+use Rattle.device.specs.declared.Peer.{Peer}
 use Rattle.hub.proofs.announcing.restart.Statement.{statement}
 use Rattle.hub.proofs.announcing.restart.Tie as tie
 
@@ -20,38 +19,36 @@ returns : tie.Need-returns
 returns c =
     record {
       number = rw (c .before .before .before .both-lent .ensures) at (c .before .admitted .ensures .0);
-      refused = λ some. (refl, refl);
-      usable = λ z. absurd (c .if1 .taken z);
+      refused = λ some. refl;
+      admitted = λ z. absurd (c .if1 .taken z);
       slot = λ z. absurd (c .if1 .taken z);
-      table = λ z. absurd (c .if1 .taken z);
+      changed = λ z. absurd (c .if1 .taken z);
     }
 
-put-reset-requires : tie.Need-put-reset-requires
-put-reset-requires c κs =
+peer-requires : tie.Need-peer-requires
+peer-requires c κs =
     let f = c .before .before .admitted .ensures .1 (c .before .if1 .left) in
     f .known
 
-put-state-requires : tie.Need-put-state-requires
-put-state-requires c κs =
-    let a = c .before .before .before .before .before .before .before .before .before .before .before .args in
-    ready (a .hub .now) (a .region .now) (a .records) (a .id) (rw (c .before .before .before .before .before .before .before .before .both-lent .ensures) at (c .before .before .before .before .before .before .admitted .ensures .1 (c .before .before .before .before .before .if1 .left))) .state
+put-reset-requires : tie.Need-put-reset-requires
+put-reset-requires c κs =
+    let f = c .before .before .before .before .admitted .ensures .1 (c .before .before .before .if1 .left) in
+    f .known
+
+state-changes-requires : tie.Need-state-changes-requires
+state-changes-requires c κs = search needs
 
 same-length-2 : tie.Need-same-length-2
 same-length-2 c = search needs
 
-same-length-3 : tie.Need-same-length-3
-same-length-3 c = search needs
-
 returns-2 : tie.Need-returns-2
 returns-2 c =
-    let a = c .before .before .before .before .before .before .before .before .before .before .before .before .before .before .args in
-    let own = ready (a .hub .now) (a .region .now) (a .records) (a .id) (rw (c .before .before .before .before .before .before .before .before .before .before .before .both-lent .ensures) at (c .before .before .before .before .before .before .before .before .before .admitted .ensures .1 (c .before .before .before .before .before .before .before .before .if1 .left))) in
     record {
-      number = sym (c .before .before .before .before .before .before .before .before .if1 .left) ∙ rw (c .before .before .before .before .before .before .before .before .before .before .before .both-lent .ensures) at (c .before .before .before .before .before .before .before .before .before .admitted .ensures .0);
+      number = sym (c .before .before .before .before .before .before .before .if1 .left) ∙ rw (c .before .before .before .before .before .before .before .before .before .before .both-lent .ensures) at (c .before .before .before .before .before .before .before .before .admitted .ensures .0);
       refused = λ some. absurd (some refl);
-      usable = λ z. ready-kept (a .hub .now) _ (a .region .now) (a .id) (resetSlot (hubOf (a .hub .now) .settings .vectors) (a .connected)) own (c .before .before .before .before .before .before .put-reset .ensures) .usable;
-      slot = λ z. c .before .before .before .before .before .before .put-reset .ensures;
-      table = λ z. c .before .before .put-state .ensures;
+      admitted = λ z. rw (c .before .before .before .before .before .before .before .before .before .before .both-lent .ensures) at (c .before .before .before .before .before .before .before .before .admitted .ensures .1 (c .before .before .before .before .before .before .before .if1 .left));
+      slot = λ z. c .before .before .before .put-reset .ensures;
+      changed = λ z. c .state-changes .ensures ∙ ap (λ (p : Peer). changes (p .state) 0) (c .before .before .before .before .before .peer .ensures);
     }
 
 pub restart-spec : {M : Type 1} → statement M
@@ -62,8 +59,8 @@ restart-spec =
     admitted-requires
     same-length
     returns
+    peer-requires
     put-reset-requires
-    put-state-requires
+    state-changes-requires
     same-length-2
-    same-length-3
     returns-2)

@@ -1,8 +1,8 @@
 -- `hub::announcing::store_register` meets its contract, register by register.
-use mathlib.Core.Path.{_≡_, refl, ap, _∙_}
+use mathlib.Core.Path.{_≡_, refl, ap, ap₂, _∙_}
 use lib.Bits.{bitAnd}
 use borrow.Author.Needs.{needs}
-use Rattle.device.specs.Effect.{registerStored, announces, withState, stateValue, rungPeer, rungVector}
+use Rattle.device.specs.Effect.{registerStored, announces, changes, withState, stateValue, rungPeer, rungVector}
 use Rattle.device.specs.Registers.{registerAt}
 use Rattle.device.specs.Ring.{withInterrupt}
 use Rattle.device.specs.World.{slotAt, withPeer}
@@ -39,11 +39,14 @@ with-state-requires c κs = search needs
 put-peer-requires-2 : tie.Need-put-peer-requires-2
 put-peer-requires-2 c κs = search needs
 
+state-changes-requires : tie.Need-state-changes-requires
+state-changes-requires c κs = search needs
+
 announce-requires : tie.Need-announce-requires
 announce-requires c κs =
-    let a = c .before .before .before .before .before .before .before .before .before .before .before .before .args in
+    let a = c .before .before .before .before .before .before .before .before .before .before .before .before .before .args in
     let s = slotAt (hubOf (a .hub .now)) (a .id) in
-    ready-kept (a .hub .now) _ (a .region .now) (a .id) (withPeer s (c .before .before .before .before .before .before .with-state .result)) (c .before .before .before .before .before .before .before .before .before .before .before .before .pre) (c .before .before .before .before .put-peer2 .ensures)
+    ready-kept (a .hub .now) _ (a .region .now) (a .id) (withPeer s (c .before .before .before .before .before .before .before .with-state .result)) (c .before .before .before .before .before .before .before .before .before .before .before .before .before .pre) (c .before .before .before .before .before .put-peer2 .ensures)
 
 none-requires-2 : tie.Need-none-requires-2
 none-requires-2 c κs = search needs
@@ -81,12 +84,13 @@ same-length-4 c = search needs
 returns-3 : tie.Need-returns-3
 unfolding registerStored registerAt announces
 returns-3 c =
-    let a = c .before .before .before .before .before .before .before .before .before .before .before .before .before .before .before .before .before .args in
+    let a = c .before .before .before .before .before .before .before .before .before .before .before .before .before .before .before .before .before .before .args in
     let s = slotAt (hubOf (a .hub .now)) (a .id) in
-    let q : c .before .before .before .before .before .before .before .before .before .before .before .with-state .result ≡ withState (s .peer) (stateValue (a .value)) = c .before .before .before .before .before .before .before .before .before .before .before .with-state .ensures ∙ ap (λ (p : Peer). withState p (stateValue (a .value))) (c .before .before .before .before .before .before .before .before .before .before .before .before .before .peer .ensures) in
-    rw (c .before .before .before .before .before .before .before .before .before .before .before .before .match .keys3)
-    (runs-own-then (a .hub .now) (c .before .before .before .before .before .before .before .before .before .put-peer2 .last .0) _ (a .region .now) _ (a .id) (withPeer s (withState (s .peer) (stateValue (a .value)))) _ _
-    (c .before .before .before .before .before .before .before .before .before .put-peer2 .ensures ∙ rw q) (rw q at (c .before .before .before .before .announce .ensures)))
+    let q : c .before .before .before .before .before .before .before .before .before .before .before .before .with-state .result ≡ withState (s .peer) (stateValue (a .value)) = c .before .before .before .before .before .before .before .before .before .before .before .before .with-state .ensures ∙ ap (λ (p : Peer). withState p (stateValue (a .value))) (c .before .before .before .before .before .before .before .before .before .before .before .before .before .before .peer .ensures) in
+    let changed : c .before .before .before .before .before .before .before .state-changes .result ≡ changes (s .peer .state) (stateValue (a .value)) = c .before .before .before .before .before .before .before .state-changes .ensures ∙ ap₂ (λ (p r : Peer). changes (p .state) (r .state)) (c .before .before .before .before .before .before .before .before .before .before .before .before .before .before .peer .ensures) q in
+    rw (c .before .before .before .before .before .before .before .before .before .before .before .before .before .match .keys3)
+    (runs-own-then (a .hub .now) (c .before .before .before .before .before .before .before .before .before .before .put-peer2 .last .0) _ (a .region .now) _ (a .id) (withPeer s (withState (s .peer) (stateValue (a .value)))) _ _
+    (c .before .before .before .before .before .before .before .before .before .before .put-peer2 .ensures ∙ rw q) (rw (q, changed) at (c .before .before .before .before .announce .ensures)))
 
 same-length-5 : tie.Need-same-length-5
 same-length-5 c = search needs
@@ -110,6 +114,7 @@ store-register-spec =
     ring-one-requires
     with-state-requires
     put-peer-requires-2
+    state-changes-requires
     announce-requires
     none-requires-2
     same-length
