@@ -49,13 +49,14 @@ does operations = record { value = 0; answer = noSection; loaded = []; operation
 unfoldable pub changes : (old new : ℕ) → Bool
 changes old new = not (eqb old new)
 
--- State store, reset and disconnect: the own slot and the four bytes of the State Table entry in any case, then the rings, 'only
--- where the State value changes' (C-11)
+-- the four bytes of the State Table entry in any case, then the rings, 'only where the State value changes' (C-11)
+abbrev pub entered : (who state : ℕ) → (changed : Bool) → List Operation
+entered who state changed = Operation.write (4 * who) (bytes 4 state) ∷ cond changed (Operation.ringOthers ∷ []) []
+
+-- State store, reset and disconnect: the own slot, then the entry and the rings
 unfoldable pub announces : ℕ → (old new : Slot) → List Operation
 announces who old new =
-    Operation.own new
-    ∷ Operation.write (4 * who) (bytes 4 (new .peer .state))
-    ∷ cond (changes (old .peer .state) (new .peer .state)) (Operation.ringOthers ∷ []) []
+    Operation.own new ∷ entered who (new .peer .state) (changes (old .peer .state) (new .peer .state))
 
 abbrev pub withState : Peer → ℕ → Peer
 withState p state =

@@ -1,17 +1,15 @@
 -- What the public calls promise: their answers, and what they leave, are the parts of `step`.
-use Prim.Native.Nat.{ℕ, _*_}
-use mathlib.Core.Bool.{Bool, cond}
-use mathlib.Core.List.{List, [], _∷_}
+use Prim.Native.Nat.{ℕ}
+use mathlib.Core.List.{List}
 use mathlib.Core.Path.{_≡_}
 use lib.Dec.{eqb}
 use lib.ListN.{length, replicate}
-use Rattle.common.specs.Bytes.{bytes}
 use Rattle.common.specs.Tests.{first}
 use Rattle.device.specs.declared.Reply.{Reply}
 use Rattle.device.specs.declared.SectionReply.{SectionReply}
 use Rattle.device.specs.declared.Settings.{Settings}
 use Rattle.device.specs.Call.{Act, Call, call}
-use Rattle.device.specs.Effect.{Operation, changes}
+use Rattle.device.specs.Effect.{Operation, changes, entered}
 use Rattle.device.specs.SetUp.{setUpRefusal, hubAfterSetUp, regionAfterSetUp}
 use Rattle.device.specs.Step.{runAll, step, replyOf, sectionReplyOf}
 use Rattle.device.specs.World.{resetSlot, slotAt, withSlot, world}
@@ -73,11 +71,6 @@ pub record SetsUp (before after regionBefore regionAfter : List ℕ) (s : Settin
 pub record Runs (hub after region regionAfter : List ℕ) (id : ℕ) (operations : List Operation) (d : Deliveries) : Type 0 where
   pub left : world (hubOf after) regionAfter ≡ runAll id (world (hubOf hub) region) operations .world
   pub list : Lists (hubOf after) d (runAll id (world (hubOf hub) region) operations .deliveries)
-
--- What State store, reset and disconnect run after the own slot: the State Table entry takes the value, and the others are rung if it
--- is a change.
-abbrev pub entered : (id state : ℕ) → Bool → List Operation
-entered id state changed = Operation.write (4 * id) (bytes 4 state) ∷ cond changed (Operation.ringOthers ∷ []) []
 
 -- A call that is lent the region and a delivery table, whose length is among the call's arguments: hub and region afterwards are
 -- the step's, the list is the step's deliveries in order, its records made from the hub afterwards, and a refusal leaves each word

@@ -6,12 +6,12 @@ use deliveries::Deliveries;
 ghost use mathlib.Core.Path.{_≡_};
 ghost use Rattle.device.specs.Call.{call};
 ghost use Rattle.device.specs.Call;
-ghost use Rattle.device.specs.Effect.{registerStored};
+ghost use Rattle.device.specs.Effect.{entered, registerStored};
 ghost use Rattle.device.specs.Registers.{registerAt};
 ghost use Rattle.device.specs.World.{slotAt};
 ghost use Rattle.words.specs.Layout.{hubOf};
 ghost use Rattle.hub.specs.Admission.{Ready};
-ghost use Rattle.hub.specs.Promises.{entered, Restarts, Runs, Serves, Told};
+ghost use Rattle.hub.specs.Promises.{Restarts, Runs, Serves, Told};
 
 // An answer without deliveries.
 fn silent(number: u32) -> Served
