@@ -163,7 +163,7 @@ pub fn cut(hub: &mut Hub, region: &mut Region, log: Log) -> Log {
     write(hub, region, next, ORDERS, 0x10, slabs as u32)
 }
 
-// The planner announces that it is saving. A State that it has stored before rings nobody.
+// The planner announces that it is saving. A State that it holds already rings nobody.
 pub fn save(hub: &mut Hub, region: &mut Region, log: Log) -> Log {
     let next = log.begin(PLANNER, b"save, store State 1");
     write(hub, region, next, PLANNER, 0x10, 1)

@@ -172,7 +172,8 @@ pub fn first(hub: &mut Hub, region: &mut Region) {
     report(log);
 }
 
-// The second tap is lost; a press after the guest has re-armed is delivered. The touch guest, whose State is 0, leaves unheard.
+// The second tap is lost; a press after the guest has re-armed is delivered. The touch guest leaves with State 0,
+// so nobody is rung.
 pub fn second(hub: &mut Hub, region: &mut Region) {
     let mut log = prepare(hub, region, 1);
     log = basket(hub, region, log);

@@ -132,14 +132,15 @@ pub fn connect(hub: &mut [u32], id: u64) -> Reply {
     unsafe { ivshmem_connect(hub.as_mut_ptr(), hub.len(), id) }
 }
 
-/// The peer leaves; vector 0 is rung at every other peer. Refused with 10, 2, 11, 3 or 4.
+/// The peer leaves; if its State was not 0, vector 0 is rung at every other peer. Refused with 10, 2, 11, 3 or 4.
 pub fn disconnect(hub: &mut [u32], region: &mut [u8], table: &mut [Delivery], id: u64) -> Counted {
     let (words, bytes, records) = (hub.len(), region.len(), table.len());
     // SAFETY: the three slices are lent for the whole call, exclusively; any bits are a `Delivery`.
     unsafe { ivshmem_disconnect(hub.as_mut_ptr(), words, region.as_mut_ptr(), bytes, table.as_mut_ptr(), records, id) }
 }
 
-/// The peer's registers take their reset values; vector 0 is rung at every other peer. Refused with 10, 2, 11, 3 or 4.
+/// The peer's registers take their reset values; if its State was not 0, vector 0 is rung at every other peer. Refused with
+/// 10, 2, 11, 3 or 4.
 pub fn reset(hub: &mut [u32], region: &mut [u8], table: &mut [Delivery], id: u64) -> Counted {
     let (words, bytes, records) = (hub.len(), region.len(), table.len());
     // SAFETY: as for `disconnect`.

@@ -85,17 +85,22 @@ pub const SIZES: [(&str, u64); 20] = [
     ("set-ups of 17 vectors refused with 1", 50),
 ];
 /// What is counted of the calls that store State, and how often it must be seen in a million calls of random histories.
-pub const STATES: [(&str, u64); 10] = [
+pub const STATES: [(&str, u64); 15] = [
     ("State stores that change State", 5_000),
     ("State stores that do not", 3_000),
     ("resets that change State", 700),
     ("resets that do not", 1_000),
     ("disconnects that change State", 700),
     ("disconnects that do not", 1_000),
-    ("State changes that are delivered", 5_000),
-    ("stores of the State that the entry does not hold yet", 150),
-    ("stores to State of what its entry holds already", 150),
-    ("resets and disconnects with State 0 and another entry", 40),
+    ("changed State stores that are delivered", 4_000),
+    ("unchanged State stores where a ring would be delivered", 2_000),
+    ("changed resets that are delivered", 400),
+    ("unchanged resets where a ring would be delivered", 700),
+    ("changed disconnects that are delivered", 400),
+    ("unchanged disconnects where a ring would be delivered", 700),
+    ("unchanged State stores, another value in the entry", 150),
+    ("changed State stores of the value in the entry", 150),
+    ("resets and disconnects with State 0, another in the entry", 40),
 ];
 
 /// How many of [`SIZES`], from the first on, are calls on large hubs.
@@ -276,6 +281,8 @@ fn at_states(call: &Call, answer: &Answer, model: &Model) -> [bool; STATES.len()
     let store = matches!(call, Call::RegisterWrite { .. });
     let reset = matches!(call, Call::Reset { .. });
     let disconnect = matches!(call, Call::Disconnect { .. });
+    let delivered = changes && answer.count > 0;
+    let missed = !changes && met.receivers;
     [
         store && changes,
         store && !changes,
@@ -283,7 +290,12 @@ fn at_states(call: &Call, answer: &Answer, model: &Model) -> [bool; STATES.len()
         reset && !changes,
         disconnect && changes,
         disconnect && !changes,
-        changes && answer.count > 0,
+        store && delivered,
+        store && missed,
+        reset && delivered,
+        reset && missed,
+        disconnect && delivered,
+        disconnect && missed,
         store && !changes && !agrees,
         store && changes && met.value == met.entry,
         !store && !changes && !agrees,

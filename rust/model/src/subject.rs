@@ -100,12 +100,14 @@ pub struct Model {
     pub met: Option<Met>,
 }
 
-/// What a call that stores State meets: the value, and what the register and the State Table entry hold before.
+/// What a call that stores State meets: the value, what the register and the State Table entry hold before, and whether a ring at
+/// the others would be delivered to one of them.
 #[derive(Clone, Copy)]
 pub struct Met {
     pub value: u32,
     pub register: u32,
     pub entry: u32,
+    pub receivers: bool,
 }
 
 impl Met {
@@ -120,11 +122,9 @@ impl Met {
         let peer = hub.peers.get(id as usize)?;
         let hidden = matches!(call, Call::RegisterWrite { .. }) && peer.command & 1 << 1 == 0;
         let entry = *region.get(4 * id as usize..)?.first_chunk()?;
-        (peer.connected == 1 && !hidden).then_some(Met {
-            value,
-            register: peer.state,
-            entry: u32::from_le_bytes(entry),
-        })
+        let receivers = (0..hub.numbers.peers).any(|other| other != id && hub.blocks(other, 0).is_empty());
+        let entry = u32::from_le_bytes(entry);
+        (peer.connected == 1 && !hidden).then_some(Met { value, register: peer.state, entry, receivers })
     }
 
     /// Whether State changes.

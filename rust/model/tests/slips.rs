@@ -236,11 +236,20 @@ fn with_another_state(slip: fn(&Met) -> u32, model: &mut Model, call: &Call, mut
     answer
 }
 
+/// The others are rung whatever State was, in these calls.
+fn rings_though_unchanged(name: &str, longest: usize, of: fn(&Call) -> bool) {
+    is_found(name, longest, || {
+        move |model: &mut Model, call: &Call, lent: Lent<'_>| {
+            if of(call) { with_another_state(|met| !met.value, model, call, lent) } else { model.perform(call, lent) }
+        }
+    });
+}
+
 #[test]
 fn rings_though_state_stays() {
-    is_found("a State that stays the same rings", 9, || {
-        |model: &mut Model, call: &Call, lent: Lent<'_>| with_another_state(|met| !met.value, model, call, lent)
-    });
+    rings_though_unchanged("a State stored again rings", 11, |call| matches!(call, Call::RegisterWrite { .. }));
+    rings_though_unchanged("a reset with State 0 rings", 9, |call| matches!(call, Call::Reset { .. }));
+    rings_though_unchanged("a disconnect with State 0 rings", 9, |call| matches!(call, Call::Disconnect { .. }));
 }
 
 #[test]
