@@ -6,12 +6,12 @@ use mathlib.Core.Path.{_≡_, refl}
 use lib.ListN.{take, drop, replicate}
 use Rattle.common.specs.Bytes.{bytes, number, setByte}
 use Rattle.common.specs.Tests.{first, every, below}
+use Rattle.device.specs.declared.Delivery.{Delivery}
 use Rattle.device.specs.declared.Settings.{Settings}
 use Rattle.device.specs.Call.{Act, Call, call}
 use Rattle.device.specs.Call.Act.{connect, configurationRead, configurationWrite, registerRead, registerWrite, msixWrite, store}
 use Rattle.device.specs.Configuration
 use Rattle.device.specs.Configuration.{fields, fieldByte, configurationByte, masks, maskIn, maskAt, maskOf, withByte, writtenByte, configurationWritten}
-use Rattle.device.specs.declared.Delivery.{Delivery}
 use Rattle.device.specs.Effect.{changes, announces, registerStored, effect, rungVector, rungPeer}
 use Rattle.device.specs.History
 use Rattle.device.specs.Msix.{inTable, withWord, msixWritten}

@@ -1,6 +1,6 @@
 -- Which calls ring since C-11, one table, checked by one theorem: what counts is the peer's State register, and the State Table entry
 -- is written in any case. In every world of a history the entry is the register (StateWords), so no history can tell which of them
--- is compared; here the region is one that holds another word, as a host may lend it.
+-- is compared; here are regions that hold another word too, as a host may lend them.
 use Prim.Native.Nat.{ℕ}
 use mathlib.Core.List.{List, [], _∷_, _++_}
 use mathlib.Core.Path.{_≡_, refl}
@@ -20,7 +20,7 @@ use Rattle.device.specs.Ring
 use Rattle.device.specs.SetUp.{total, accepted}
 use Rattle.device.specs.Sizes.{maxPeers, maxVectors}
 use Rattle.device.specs.Sound.{peerFixed, peerReset, entryFixed, entryReset, peerSound, entrySound, slotSound, sound}
-use Rattle.device.specs.Step.{Outcome, run, runAll, stepBy, step}
+use Rattle.device.specs.Step.{run, runAll, stepBy, step}
 use Rattle.device.specs.World.{World, Slot, zeroSlot, resetSlot}
 use Rattle.device.proofs.BenchCases.{Case, case, parts, Right}
 

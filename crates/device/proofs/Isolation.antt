@@ -15,7 +15,7 @@ use Rattle.device.specs.Step.{Outcome, effectIn, step}
 use Rattle.device.specs.Window.{Item, memoryBit, items, isAccepted, stateBefore, windowFrom, window, Isolation}
 use Rattle.device.specs.World.{Slot, World, slotAt}
 use Rattle.device.proofs.HistoryLaws.{Fit, Tracks, Remembered, fit-sound, start-fit, start-remembered, step-fit, step-remembered, taken, small}
-use Rattle.device.proofs.ReplayLaws.{Told, Entered, seen, toldBy, tell, replay, replay-both, replay-one, replay-fit, own-seen, sent-told}
+use Rattle.device.proofs.ReplayLaws.{Told, TableHolds, seen, toldBy, tell, replay, replay-both, replay-one, replay-fit, own-seen, sent-told}
 use Rattle.device.proofs.SeenLaws.{View, view, Sight, heardFirst, all-seen}
 use Rattle.device.proofs.StateWords.{Written, start-written, step-written, word-again}
 use Rattle.device.proofs.StepLaws.{accepted-effect, refused-changes-nothing}
@@ -41,13 +41,13 @@ module _ (s : Settings) (a : accepted s ≡ true) (b : ℕ) (w w′ : World) (f 
       let slot : Slot = slotAt (w .hub) (c .who) in
       let near : c .who < s .peers = small s w c a f r in
       let memory : Tracks (memoryBit (c .who) past) slot = m (c .who) near in
-      let entered : Entered (w′ .region) (c .who) slot =
-      subst (λ (l : List ℕ). Entered l (c .who) slot) (ap (λ (x : View). x .region) e) (word-again s (w .region) (c .who) slot near (words (c .who) near)) in
+      let held : TableHolds (w′ .region) (c .who) slot =
+      subst (λ (l : List ℕ). TableHolds l (c .who) slot) (ap (λ (x : View). x .region) e) (word-again s (w .region) (c .who) slot near (words (c .who) near)) in
       no-answer c (step w c) d
       ∙ ap (λ (o : Outcome). record { view = view b (o .world); heard = deliveriesTo b (o .deliveries) }) (accepted-effect w c r)
       ∙ all-seen b (c .who) false (ne-eqb (c .who) b d) (effectIn w c .operations) w w′ e
       ∙ rw (ne-eqb (c .who) b d)
-      (ap (λ (x : Told). seen b x) (sym (sent-told b (c .who) (w .hub .settings) slot (w .region) (c .act) _ w′ (taken w c r .there) memory entered)))
+      (ap (λ (x : Told). seen b x) (sym (sent-told b (c .who) (w .hub .settings) slot (w .region) (c .act) _ w′ (taken w c r .there) memory held)))
 
   refused-call : (past : List Call) (c : Call) → (c .who ≡ b → ⊥) → (refusal w c ≡ 0 → ⊥)
       → seen b (toldBy b c (step w c)) ≡ seen b (replay b w′ (items b past false (stateBefore w c) c))

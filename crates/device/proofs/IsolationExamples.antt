@@ -158,12 +158,12 @@ hidden =
     ∷ call 2 connect
     ∷ call 2 (registerWrite 3 0x0C 4 0x00000000)
     ∷ call 2 (registerWrite 3 0x10 4 9)
-    ∷ call 2 (reset 3)
-    ∷ call 2 (disconnect 3)
-    ∷ stores
     ∷ call 1 (registerWrite 3 0x0C 4 0x00010000)
     ∷ call 1 (registerWrite 3 0x0C 4 0x00020000)
     ∷ call 1 (registerWrite 3 0x0C 4 0x00030000)
+    ∷ stores
+    ∷ call 2 (reset 3)
+    ∷ call 2 (disconnect 3)
     ∷ []
 
 -- the interrupts among observations

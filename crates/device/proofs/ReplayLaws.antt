@@ -120,11 +120,11 @@ own-seen b a w w′ h h′ e = rw (refusal-alike b a w w′ h h′ e) (own-by b 
 -- Another's call.
 
 -- the State Table of a region holds a peer's State already
-abbrev pub Entered : List ℕ → ℕ → Slot → Type 0
-Entered region who slot = sets region (4 * who) (bytes 4 (slot .peer .state)) ≡ region
+abbrev pub TableHolds : List ℕ → ℕ → Slot → Type 0
+TableHolds region who slot = sets region (4 * who) (bytes 4 (slot .peer .state)) ≡ region
 
 -- a State value that changes is an item; one that does not writes what stands there
-announced-told : (b who : ℕ) (old new : Slot) (w : World) → Entered (w .region) who old
+announced-told : (b who : ℕ) (old new : Slot) (w : World) → TableHolds (w .region) who old
     → replay b w (wordSent who (old .peer .state) (new .peer .state)) ≡ toldOf b (runAll b w (reach b false (announces who old new)))
 unfolding replay tell wordSent announces changes reach runAll run deliveriesTo
 announced-told b who old new w same =
@@ -135,7 +135,7 @@ announced-told b who old new w same =
     (λ (d : old .peer .state ≡ new .peer .state → ⊥).
     rw (ne-eqb (old .peer .state) (new .peer .state) d) (replay-one b w (Item.word who (new .peer .state))))
 
-stored-told : (b who : ℕ) (slot : Slot) (r : Register) (x : ℕ) (w : World) → Entered (w .region) who slot
+stored-told : (b who : ℕ) (slot : Slot) (r : Register) (x : ℕ) (w : World) → TableHolds (w .region) who slot
     → replay b w (sentBy b who (slot .peer .state) r x) ≡ toldOf b (runAll b w (reach b false (registerStored who slot r x)))
 unfolding replay tell sentBy registerStored reach runAll deliveriesTo
 stored-told b who slot Register.identity x w same = refl
@@ -149,7 +149,7 @@ stored-told b who slot Register.state x w same = announced-told b who slot (with
 stored-told b who slot Register.none x w same = refl
 
 pub sent-told : (b who : ℕ) (s : Settings) (slot : Slot) (region : List ℕ) (a : Act) (on : Bool) (w : World)
-    → missing (eqb (slot .peer .connected) 1) (accessOf a) ≡ false → Tracks on slot → Entered (w .region) who slot
+    → missing (eqb (slot .peer .connected) 1) (accessOf a) ≡ false → Tracks on slot → TableHolds (w .region) who slot
     → replay b w (sent b who on (slot .peer .state) a) ≡ toldOf b (runAll b w (reach b false (effect s who slot region a .operations)))
 unfolding replay tell sent effect reach runAll deliveriesTo resetSlot missing accessOf
 sent-told b who s slot region connect on w m e same = refl

@@ -17,8 +17,8 @@ const PAGE: u64 = 4096;
 /// A row of the table.
 pub struct Case {
     pub name: String,
-    /// Calls that differ a little, and the hub that each finds. The rounds take two lists in turn, which are the same but for State
-    /// stores: each of these finds the value of the other list, so that it is a change.
+    /// Calls that differ a little, and the hub that each finds. The rounds take two lists in turn, which are the same but for
+    /// State stores: each of these finds the value of the other list, so that it is a change.
     pub calls: [Vec<Call>; 2],
     pub hubs: Vec<Vec<u32>>,
     pub region_bytes: usize,

@@ -194,8 +194,8 @@ impl<F: State + ?Sized, T: Soundness<F>> Yardstick<F, T> {
     }
 }
 
-/// The State Table takes the value that the caller's State now has; where it was another, vector 0 of every other peer is rung.
-/// Answers the count of deliveries.
+/// The State Table takes the value that the caller's State now has; where it was another, vector 0 of every other peer is
+/// rung. Answers the count of deliveries.
 fn announce(
     hub: &mut (impl State + ?Sized),
     region: &mut [u8],

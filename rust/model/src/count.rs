@@ -84,6 +84,9 @@ pub const SIZES: [(&str, u64); 20] = [
     ("set-ups of 65 peers refused with 1", 50),
     ("set-ups of 17 vectors refused with 1", 50),
 ];
+/// How many of [`SIZES`], from the first on, are calls on large hubs.
+pub const ON_LARGE_HUBS: usize = 5;
+
 /// What is counted of the calls that store State, and how often it must be seen in a million calls of random histories.
 pub const STATES: [(&str, u64); 15] = [
     ("State stores that change State", 5_000),
@@ -102,9 +105,6 @@ pub const STATES: [(&str, u64); 15] = [
     ("changed State stores of the value in the entry", 150),
     ("resets and disconnects with State 0, another in the entry", 40),
 ];
-
-/// How many of [`SIZES`], from the first on, are calls on large hubs.
-pub const ON_LARGE_HUBS: usize = 5;
 
 /// What is counted of the words that calls are lent, and how often it must be seen in a million calls of random histories. But
 /// for set-ups, these are calls refused with 10 because the words are not as many as their first two ask for.

@@ -465,8 +465,8 @@ impl Generator {
         self.planned.push_back(Call::RegisterWrite { id, offset: 0x10, width: 4, value }.into());
     }
 
-    /// A State register is no longer what the State Table has for it, as broken memory or another region would make it; then the
-    /// peer stores what the register or what the entry holds, or is reset or disconnected.
+    /// A State register is no longer what the State Table has for it, as broken memory or another region would make it; then
+    /// the peer stores what the register or what the entry holds, or is reset or disconnected.
     fn plan_other_state(&mut self, hub: &Hub) {
         let id = self.id(hub);
         if hub.peers.get(id as usize).is_none_or(|peer| peer.connected != 1) {

@@ -100,8 +100,8 @@ pub struct Model {
     pub met: Option<Met>,
 }
 
-/// What a call that stores State meets: the value, what the register and the State Table entry hold before, and whether a ring at
-/// the others would be delivered to one of them.
+/// What a call that stores State meets: the value, what the register and the State Table entry hold before, and whether a
+/// ring at the others would be delivered to one of them.
 #[derive(Clone, Copy)]
 pub struct Met {
     pub value: u32,

@@ -136,8 +136,8 @@ fn whole_list() {
     assert_eq!(bench.register(1, 0x10, 6), [to(0, 0x40)]);
 }
 
-/// C-11: a State store, a reset and a disconnect ring only where the peer's State register changes. The State Table entry takes the
-/// value in any case, and what it held before does not matter.
+/// C-11: a State store, a reset and a disconnect ring only where the peer's State register changes. The State Table entry
+/// takes the value in any case, and what it held before does not matter.
 #[test]
 fn state_that_changes_and_that_does_not() {
     let to_zero = Delivery { address: 0xfee0_0000, payload: 0x40, target: PeerId(0), vector: Vector(0) };
