@@ -11,6 +11,9 @@ pub type Numbers = [u64; 7];
 
 pub type Ids = [u16; 3];
 
+// The lowest base, for the cases that ask for no other.
+pub const BASE: u64 = 0x100000;
+
 // The spaces that a guest reads by offset and width.
 pub enum Space {
     Configuration,

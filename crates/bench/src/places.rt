@@ -15,6 +15,8 @@ pub const O: usize = 4;
 
 pub const BASE_LOW: usize = 5;
 
+pub const BASE_HIGH: usize = 6;
+
 pub const PROTOCOL: usize = 7;
 
 pub const VENDOR: usize = 8;

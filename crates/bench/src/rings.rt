@@ -3,6 +3,7 @@ use super::acts;
 use super::acts::configuration_write;
 use super::acts::msix_write;
 use super::calls;
+use super::calls::BASE;
 use super::calls::Space;
 use super::places;
 use super::print;
@@ -18,7 +19,7 @@ type Largest = [u32; words::MAX_HUB_WORDS];
 const RECORDS: u64 = device::MAX_PEERS as u64;
 
 pub fn set_up(hub: &mut Hub, region: &mut Region) {
-    super::setups::set_up(hub, region, [4, 2, 4096, 16384, 4096, 0, 36864]);
+    super::setups::set_up(hub, region, [4, 2, 4096, 16384, 4096, BASE, 36864]);
     calls::connect(hub, 0);
     calls::connect(hub, 1);
     calls::connect(hub, 3);
@@ -190,7 +191,7 @@ fn joined(hub: &mut [u32], region: &mut Region, id: u64, payload: u32) {
 
 // Eight peers, each rung by the others.
 fn eight(hub: &mut Eight, region: &mut Region) {
-    super::setups::set_up(hub, region, [8, 4, 4096, 0, 4096, 0, 36864]);
+    super::setups::set_up(hub, region, [8, 4, 4096, 0, 4096, BASE, 36864]);
     joined(hub, region, 0, 0x40);
     joined(hub, region, 1, 0x41);
     joined(hub, region, 2, 0x42);
@@ -240,7 +241,7 @@ fn last(hub: &mut Largest, region: &mut Region) {
 // The most peers with the most vectors: tables of 63 and of 64 records, all the others rung, and words that are one off. After its
 // reset peer 63 has State 0, so that its disconnect rings nobody.
 fn sixty_four(hub: &mut Largest, region: &mut Region) {
-    super::setups::set_up(hub, region, [64, 16, 4096, 32768, 0, 0, 36864]);
+    super::setups::set_up(hub, region, [64, 16, 4096, 32768, 0, BASE, 36864]);
     all_joined(hub, region);
     acts::register_write(hub, region, 63, 63, 0x10, 4, 0x01020304);
     acts::register_write(hub, region, 64, 63, 0x10, 4, 0x01020304);

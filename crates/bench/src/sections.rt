@@ -1,5 +1,6 @@
 // The section question: where each section starts and ends, and who may store there.
 use super::calls;
+use super::calls::BASE;
 use super::calls::question;
 use super::places;
 use super::state::Region;
@@ -56,7 +57,7 @@ fn outside(hub: &Hub) {
 
 // Two peers connected to a hub with these sections.
 fn joined(hub: &mut Hub, region: &mut Region, common: u64, output: u64, bytes: u64) {
-    super::setups::set_up(hub, region, [2, 1, 4096, common, output, 0, bytes]);
+    super::setups::set_up(hub, region, [2, 1, 4096, common, output, BASE, bytes]);
     calls::connect(hub, 0);
     calls::connect(hub, 1);
 }

@@ -1,5 +1,6 @@
 // Hubs with one word changed, and other words than a hub's: sound ones are answered, all others refused with 10.
 use super::calls;
+use super::calls::BASE;
 use super::calls::changed;
 use super::calls::cut;
 use super::calls::entry_changed;
@@ -135,6 +136,18 @@ fn unaccepted(hub: &mut Three) {
     calls::made(hub, b"V", V, 2);
 }
 
+// The region is at the lowest base: a page further is sound too, and every address below is not. Where the base's high word is not 0,
+// its low word may be anything that is a multiple of 4096.
+fn bases(hub: &mut Three) {
+    changed(hub, b"base's low word", BASE_LOW, 0);
+    changed(hub, b"base's low word", BASE_LOW, 0x000FF000);
+    changed(hub, b"base's low word", BASE_LOW, 0x00101000);
+    calls::made(hub, b"base's high word", BASE_HIGH, 1);
+    changed(hub, b"base's low word", BASE_LOW, 0);
+    changed(hub, b"base's low word", BASE_LOW, 0x000FF000);
+    calls::made(hub, b"base's high word", BASE_HIGH, 0);
+}
+
 // The last vector of the connected peer and of another, then the last peer.
 fn last(hub: &[u32]) {
     entry_changed(hub, Column::Low, 0, 1, 0xFFFFFFFC);
@@ -213,18 +226,19 @@ fn two(hub: &mut [u32], region: &mut Region) {
 }
 
 fn three(hub: &mut Three, region: &mut Region) {
-    set_up(hub, region, [3, 2, 4096, 0, 0, 0, 4096]);
+    set_up(hub, region, [3, 2, 4096, 0, 0, BASE, 4096]);
     calls::connect(hub, 0);
     sizes(hub);
     as_many(hub);
     unaccepted(hub);
+    bases(hub);
     last(hub);
     few(hub);
     lengths(hub);
 }
 
 fn sixty_four(hub: &mut [u32], region: &mut Region) {
-    set_up(hub, region, [64, 16, 4096, 0, 0, 0, 4096]);
+    set_up(hub, region, [64, 16, 4096, 0, 0, BASE, 4096]);
     calls::connect(hub, 0);
     calls::connect(hub, 63);
     largest(hub);

@@ -38,7 +38,7 @@ case gives says = record { gives = gives; says = says }
 -- a hub of n peers with v vectors, sections of s, r and o bytes and protocol 0001h, right after set-up
 abbrev setUp : ℕ → ℕ → ℕ → ℕ → ℕ → World
 setUp n v s r o =
-    let numbers : Settings = record { peers = n; vectors = v; table = s; common = r; output = o; base = 0; protocol = 0x0001; vendor = 0; subsystem = 0 } in
+    let numbers : Settings = record { peers = n; vectors = v; table = s; common = r; output = o; base = 0x100000000; protocol = 0x0001; vendor = 0; subsystem = 0 } in
     world (freshHub numbers) (replicate (total numbers) 0)
 
 -- a call of a peer, and the world after it

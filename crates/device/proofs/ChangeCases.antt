@@ -26,7 +26,7 @@ use Rattle.device.proofs.BenchCases.{Case, case, parts, Right}
 
 -- two peers with one vector, and no section but the State Table
 abbrev two : Settings
-two = record { peers = 2; vectors = 1; table = 4096; common = 0; output = 0; base = 0; protocol = 0; vendor = 0; subsystem = 0 }
+two = record { peers = 2; vectors = 1; table = 4096; common = 0; output = 0; base = 0x100000000; protocol = 0; vendor = 0; subsystem = 0 }
 
 -- connected, with every switch on, data 40h and this State
 abbrev listens : ℕ → Slot

@@ -34,7 +34,7 @@ use Rattle.device.proofs.Isolation.{isolation}
 
 -- three peers with one vector; a page each for the State Table and the common section
 abbrev pub numbers : Settings
-numbers = record { peers = 3; vectors = 1; table = 4096; common = 4096; output = 0; base = 0; protocol = 0; vendor = 0; subsystem = 0 }
+numbers = record { peers = 3; vectors = 1; table = 4096; common = 4096; output = 0; base = 0x100000000; protocol = 0; vendor = 0; subsystem = 0 }
 
 -- peers 0 and 1 are connected, and peer 1 has Command bit 1 on
 abbrev pub joined : List Call

@@ -1,6 +1,7 @@
--- The cases of 'Numbers accepted at set-up', with the bounds of C-12, one table, checked by one theorem: what a set-up answers where
--- N, V or S is at a bound, or next to it. So the bounds themselves are held to the rules, and not only the code to the bounds.
-use Prim.Native.Nat.{ℕ, _^_}
+-- The cases of 'Numbers accepted at set-up', with the bounds of C-12 and C-16, one table, checked by one theorem: what a set-up
+-- answers where N, V, S or the base is at a bound, or next to it. So the bounds themselves are held to the rules, and not only the
+-- code to the bounds.
+use Prim.Native.Nat.{ℕ, _-_, _^_}
 use mathlib.Core.Bool.{Bool, true, false}
 use mathlib.Core.List.{List, [], _∷_}
 use mathlib.Core.Path.{refl}
@@ -11,16 +12,24 @@ use Rattle.device.specs.SetUp.{total, accepted, setUpRefusal}
 use Rattle.device.specs.Sizes.{maxPeers, maxVectors}
 use Rattle.device.proofs.BenchCases.{Case, Right}
 
+-- N, V, S and the base; there is no section but the State Table
+abbrev numbers : ℕ → ℕ → ℕ → ℕ → Settings
+numbers n v s base =
+    record { peers = n; vectors = v; table = s; common = 0; output = 0; base = base; protocol = 0; vendor = 0; subsystem = 0 }
+
 -- a set-up with N, V and S, in words of the right number or not and with a region of so many bytes, and the number that the rules
 -- give it
 abbrev lent : Bool → ℕ → ℕ → ℕ → ℕ → ℕ → Case
 lent roomy bytes n v s says =
-    let numbers : Settings = record { peers = n; vectors = v; table = s; common = 0; output = 0; base = 2 ^ 32; protocol = 0; vendor = 0; subsystem = 0 } in
-    record { gives = setUpRefusal roomy numbers (replicate bytes 0) ∷ []; says = says ∷ [] }
+    record { gives = setUpRefusal roomy (numbers n v s (2 ^ 32)) (replicate bytes 0) ∷ []; says = says ∷ [] }
 
 -- one in which all that is lent is right
 abbrev case : ℕ → ℕ → ℕ → ℕ → Case
 case n v s says = lent true s n v s says
+
+-- one with T and the base, and all else right
+abbrev placed : ℕ → ℕ → ℕ → Case
+placed t base says = record { gives = setUpRefusal true (numbers 2 1 t base) (replicate t 0) ∷ []; says = says ∷ [] }
 
 pub cases : List Case
 cases =
@@ -43,6 +52,15 @@ cases =
     -- 'S = 0 or 4100 refused, 4096 taken'
     ∷ case 2 1 0 1
     ∷ case 2 1 4100 1
+    -- 'refuses a base below 100000h with 1', also where the region ends there or beyond; 'exactly 100000h is taken'
+    ∷ placed 4096 0 1
+    ∷ placed 4096 0xFF000 1
+    ∷ placed 8192 0xFF000 1
+    ∷ placed 4096 0x100000 0
+    ∷ placed 4096 0x101000 0
+    -- 'base + T at most 2^64'
+    ∷ placed 4096 (2 ^ 64 - 4096) 0
+    ∷ placed 8192 (2 ^ 64 - 4096) 1
     -- what is lent: 1 whatever the words, then 10, then 2
     ∷ lent false 4096 65 1 4096 1
     ∷ lent false 4095 2 17 4096 1
@@ -55,4 +73,4 @@ cases =
 pub set-ups : Right cases
 unfolding cases first every total accepted setUpRefusal maxPeers maxVectors
 set-ups =
-    (refl, (refl, (refl, (refl, (refl, (refl, (refl, (refl, (refl, (refl, (refl, (refl, (refl, (refl, (refl, (refl, (refl, (refl, (refl, (refl, tt))))))))))))))))))))
+    (refl, (refl, (refl, (refl, (refl, (refl, (refl, (refl, (refl, (refl, (refl, (refl, (refl, (refl, (refl, (refl, (refl, (refl, (refl, (refl, (refl, (refl, (refl, (refl, (refl, (refl, (refl, tt)))))))))))))))))))))))))))

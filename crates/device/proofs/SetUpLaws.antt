@@ -11,7 +11,7 @@ use borrow.Author.Tests.{leb-true, ltb-true}
 use Rattle.common.specs.Tests.{every}
 use Rattle.common.proofs.TestLaws.{every-true}
 use Rattle.device.specs.declared.Settings.{Settings}
-use Rattle.device.specs.SetUp.{accepted, total, paged, sixteenBits}
+use Rattle.device.specs.SetUp.{accepted, total, paged, minBase, sixteenBits}
 use Rattle.device.specs.Sizes.{maxPeers, maxVectors}
 use Rattle.device.specs.Sound.{sound}
 use Rattle.device.specs.World.{zeroHub}
@@ -42,6 +42,7 @@ tests s =
     ∷ paged (s .output)
     ∷ leb (total s) (2 ^ 30)
     ∷ paged (s .base)
+    ∷ leb minBase (s .base)
     ∷ leb (s .base + total s) (2 ^ 64)
     ∷ sixteenBits (s .protocol)
     ∷ sixteenBits (s .vendor)
@@ -62,10 +63,10 @@ accepted-facts s e =
       vectors = leb-true _ _ (each s e 3);
       state = leb-true _ _ (each s e 6);
       whole = leb-true _ _ (each s e 9);
-      placed = leb-true _ _ (each s e 11);
-      protocol = ltb-true _ _ (each s e 12);
-      vendor = ltb-true _ _ (each s e 13);
-      subsystem = ltb-true _ _ (each s e 14);
+      placed = leb-true _ _ (each s e 12);
+      protocol = ltb-true _ _ (each s e 13);
+      vendor = ltb-true _ _ (each s e 14);
+      subsystem = ltb-true _ _ (each s e 15);
     }
 
 -- each section is no larger than the whole

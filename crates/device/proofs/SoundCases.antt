@@ -69,6 +69,8 @@ soundHubs =
     ∷ hub two present present
     -- connected and at reset, and with no bit of an entry set
     ∷ hub two (slot (resetPeer 1) resetEntry (entry 0 0 0 0)) present
+    -- the lowest base
+    ∷ hub (numbers 2 2 4096 0 0 0x100000 0 0 0) present absent
     ∷ []
 
 -- 'the set-up numbers would be accepted'
@@ -85,6 +87,8 @@ unaccepted =
     ∷ numbers 2 2 4096 0 1 0x40000000 0 0 0
     ∷ numbers 2 2 4096 (2 ^ 30) 0 0x40000000 0 0 0
     ∷ numbers 2 2 4096 0 0 0x40000001 0 0 0
+    ∷ numbers 2 2 4096 0 0 0 0 0 0
+    ∷ numbers 2 2 4096 0 0 0xFF000 0 0 0
     ∷ numbers 2 2 8192 0 0 (2 ^ 64 - 4096) 0 0 0
     ∷ numbers 2 2 4096 0 0 0x40000000 (2 ^ 16) 0 0
     ∷ numbers 2 2 4096 0 0 0x40000000 0 (2 ^ 16) 0

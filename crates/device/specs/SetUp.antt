@@ -13,6 +13,10 @@ use Rattle.device.specs.World.{Hub, zeroHub, resetSlot}
 abbrev pub paged : ℕ → Bool
 paged x = eqb (x % 4096) 0
 
+-- C-16: 'Set-up refuses a base below 100000h with 1; exactly 100000h is taken'
+abbrev pub minBase : ℕ
+minBase = 0x100000
+
 abbrev pub sixteenBits : ℕ → Bool
 sixteenBits x = ltb x (2 ^ 16)
 
@@ -34,6 +38,7 @@ accepted s =
     ∷ paged (s .output)
     ∷ leb (total s) (2 ^ 30)
     ∷ paged (s .base)
+    ∷ leb minBase (s .base)
     ∷ leb (s .base + total s) (2 ^ 64)
     ∷ sixteenBits (s .protocol)
     ∷ sixteenBits (s .vendor)

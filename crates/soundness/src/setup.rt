@@ -8,6 +8,9 @@ ghost use Rattle.soundness.specs.Parts;
 // The most bytes that all sections may have together.
 const MOST_BYTES: u64 = 0x40000000;
 
+// The lowest base: below it is low memory, where firmware stands.
+const MIN_BASE: u64 = 0x100000;
+
 // No sum of these numbers wraps.
 fn addable(s: Settings) -> bool
     ensures { λ r. ⌜ r ≡ Parts.addable s ⌝ }
@@ -44,6 +47,7 @@ fn tested(s: Settings) -> bool
         & (s.output % 4096 == 0)
         & (all <= MOST_BYTES)
         & (s.base % 4096 == 0)
+        & (MIN_BASE <= s.base)
         & (s.base <= last)
         & (s.protocol < 65536)
         & (s.vendor < 65536)

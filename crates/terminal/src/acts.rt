@@ -9,6 +9,9 @@ const PEERS: u64 = 4;
 
 const VECTORS: u64 = 2;
 
+// Where the guests find the shared region: at 4 GiB, beyond their own memory.
+const BASE: u64 = 0x100000000;
+
 // As many words as the set-up asks for. Arrays, since their lengths need no proof when they are lent.
 pub const HUB_WORDS: usize = (10 + 8 * PEERS + 4 * (PEERS * VECTORS)) as usize;
 
@@ -34,7 +37,7 @@ const RECORDS: u64 = PEERS;
 
 pub fn set_up(hub: &mut Hub, region: &mut Region, log: Log) -> Log {
     let next = log.begin(HOST, b"set up 4 peers with 2 vectors");
-    let r = hub::set_up(hub, region, PEERS, VECTORS, 4096, 4096, 4096, 0, 1, 0, 0);
+    let r = hub::set_up(hub, region, PEERS, VECTORS, 4096, 4096, 4096, BASE, 1, 0, 0);
     print::answered(r.number);
     next
 }
