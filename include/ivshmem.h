@@ -30,6 +30,9 @@ extern "C" {
 #define IVSHMEM_MAX_PEERS 64
 #define IVSHMEM_MAX_VECTORS 16
 
+/* The lowest base of a region, 1 MiB: below it is low memory, where firmware stands. */
+#define IVSHMEM_MIN_BASE 0x100000
+
 /* How many words a hub of so many peers and vectors has, as a size_t; with constants it is a constant, for an array's length.
    424 bytes for 4 peers by 4 vectors, 18 KB for the largest. */
 #define IVSHMEM_HUB_WORDS(peers, vectors) \
@@ -104,9 +107,9 @@ typedef struct ivshmem_section {
    IVSHMEM_MAX_VECTORS, the same for all; table: bytes of the State Table, a nonzero multiple of 4096 and at least 4 * peers;
    common and output: bytes of the read/write section and of each peer's output section, multiples of 4096, zero allowed. The
    region's length is table + common + peers * output, at most 2^30. base: the region's guest physical address, a multiple of
-   4096, with base + length at most 2^64. Refused with 1, whatever is lent; then with 10 where hub_words is not
-   IVSHMEM_HUB_WORDS(peers, vectors); then with 2. Each of these leaves all the words zero, however many they are, and the
-   region as it was. */
+   4096 and at least IVSHMEM_MIN_BASE, with base + length at most 2^64. Refused with 1, whatever is lent; then with 10 where
+   hub_words is not IVSHMEM_HUB_WORDS(peers, vectors); then with 2. Each of these leaves all the words zero, however many they
+   are, and the region as it was. */
 ivshmem_reply ivshmem_set_up(uint32_t *hub, size_t hub_words, uint8_t *region, size_t region_bytes, uint64_t peers,
                              uint64_t vectors, uint64_t table, uint64_t common, uint64_t output, uint64_t base,
                              uint16_t protocol, uint16_t vendor, uint16_t subsystem);

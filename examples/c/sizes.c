@@ -1,6 +1,6 @@
 /* The header's sizes are the library's: a hub of each size is set up in just so many words, a word less or more is refused and
    left all zero, and so is one peer or one vector more than the most. The last peer of the largest is there, and its table has
-   a record for each peer. Prints what is not so. */
+   a record for each peer. The lowest base is the header's, too. Prints what is not so. */
 #include <stdio.h>
 
 #include "ivshmem.h"
@@ -19,9 +19,14 @@ static int wrong(const char *what, uint64_t number, uint64_t expected)
     return 1;
 }
 
+static uint32_t set_up_at(uint64_t base, size_t words, uint64_t peers, uint64_t vectors)
+{
+    return ivshmem_set_up(hub, words, region, TABLE, peers, vectors, TABLE, 0, 0, base, 1, 0x110A, 0x4106).number;
+}
+
 static uint32_t set_up(size_t words, uint64_t peers, uint64_t vectors)
 {
-    return ivshmem_set_up(hub, words, region, TABLE, peers, vectors, TABLE, 0, 0, 0x100000000, 1, 0x110A, 0x4106).number;
+    return set_up_at(0x100000000, words, peers, vectors);
 }
 
 static uint32_t reset(size_t records, uint64_t id)
@@ -68,6 +73,9 @@ int main(void)
     faults += refused("a peer more", IVSHMEM_HUB_WORDS(peers + 1, vectors), peers + 1, vectors, IVSHMEM_BAD_SETTING);
     faults += refused("a vector more", IVSHMEM_HUB_WORDS(peers, vectors + 1), peers, vectors + 1, IVSHMEM_BAD_SETTING);
     faults += refused("one peer, no words", 0, 1, vectors, IVSHMEM_BAD_SETTING);
+    faults += wrong("a lower base", set_up_at(IVSHMEM_MIN_BASE - 4096, words, peers, vectors), IVSHMEM_BAD_SETTING);
+    faults += wrong("the lowest base", set_up_at(IVSHMEM_MIN_BASE, words, peers, vectors), IVSHMEM_ACCEPTED);
+    faults += wrong("the last base", set_up_at(UINT64_MAX - TABLE + 1, words, peers, vectors), IVSHMEM_ACCEPTED);
     faults += wrong("the most", set_up(words, peers, vectors), IVSHMEM_ACCEPTED);
     faults += wrong("the last peer", ivshmem_connect(hub, words, peers - 1).number, IVSHMEM_ACCEPTED);
     faults += wrong("a peer beyond it", ivshmem_connect(hub, words, peers).number, IVSHMEM_NO_SUCH_PEER);

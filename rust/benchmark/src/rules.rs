@@ -1,7 +1,8 @@
 //! What the yardsticks share: the rules over plain numbers.
 
 use ivshmem::{
-    CONFIGURATION_BYTES, Delivery, MAX_PEERS, MAX_VECTORS, MSIX_BYTES, PeerId, REGISTER_BYTES, Section, Vector,
+    CONFIGURATION_BYTES, Delivery, MAX_PEERS, MAX_VECTORS, MIN_BASE, MSIX_BYTES, PeerId, REGISTER_BYTES, Section,
+    Vector,
 };
 pub use model::hub::{Entry, Numbers};
 
@@ -57,6 +58,7 @@ pub fn accepted(n: &Numbers) -> bool {
         && n.output <= MOST_BYTES
         && total(n) <= MOST_BYTES
         && pages(n.base)
+        && n.base >= MIN_BASE
         && n.base.checked_add(total(n) - 1).is_some()
         && n.protocol <= 0xffff
         && n.subsystem_vendor <= 0xffff

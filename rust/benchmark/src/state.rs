@@ -69,13 +69,13 @@ const ZERO: Entry = Entry { low: 0, high: 0, data: 0, control: 0 };
 impl Plain {
     fn with_room(peers: usize, vectors: usize) -> Plain {
         let peer = Peer { registers: Registers::default(), entries: vec![ZERO; vectors] };
-        Plain { numbers: Numbers::default(), peers: vec![peer; peers] }
+        Plain { numbers: Numbers::ZERO, peers: vec![peer; peers] }
     }
 
     /// The numbers of peers and vectors that it has room for.
     fn room(&self) -> Numbers {
         let vectors = self.peers.first().map_or(0, |peer| peer.entries.len());
-        Numbers { peers: self.peers.len() as u64, vectors: vectors as u64, ..Numbers::default() }
+        Numbers { peers: self.peers.len() as u64, vectors: vectors as u64, ..Numbers::ZERO }
     }
 }
 
@@ -127,7 +127,7 @@ impl State for Plain {
 
     #[inline(always)]
     fn clear(&mut self) {
-        self.numbers = Numbers::default();
+        self.numbers = Numbers::ZERO;
         for peer in &mut self.peers {
             peer.registers = Registers::default();
             peer.entries.fill(ZERO);
@@ -251,7 +251,7 @@ impl State for [u32] {
     /// Of fewer words than there are settings, none.
     #[inline(always)]
     fn numbers(&self) -> Numbers {
-        let Some(words) = self.first_chunk::<SETTING_WORDS>() else { return Numbers::default() };
+        let Some(words) = self.first_chunk::<SETTING_WORDS>() else { return Numbers::ZERO };
         Numbers {
             peers: words[0].into(),
             vectors: words[1].into(),

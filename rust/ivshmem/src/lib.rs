@@ -70,6 +70,8 @@ pub use types::{PeerId, Placement, Section, Settings, Vector};
 pub const MAX_PEERS: usize = 64;
 /// The most vectors that a peer can have.
 pub const MAX_VECTORS: usize = 16;
+/// The lowest guest physical address of a region: 1 MiB. Below it is low memory, where firmware stands.
+pub const MIN_BASE: u64 = 0x10_0000;
 /// The words of the largest hub.
 pub const MAX_HUB_WORDS: usize = hub_words(MAX_PEERS, MAX_VECTORS);
 /// Bytes of a peer's configuration space.

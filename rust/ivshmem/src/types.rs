@@ -27,7 +27,7 @@ impl fmt::Display for Vector {
 }
 
 /// The numbers that a hub is set up with. Sizes are in bytes.
-#[derive(Clone, Copy, Debug, Default, PartialEq, Eq, Hash)]
+#[derive(Clone, Copy, Debug, PartialEq, Eq, Hash)]
 pub struct Settings {
     /// How many peers there are: 2 to [`MAX_PEERS`](crate::MAX_PEERS).
     pub peers: u64,
@@ -39,7 +39,8 @@ pub struct Settings {
     pub read_write: u64,
     /// Size of each peer's output section: a multiple of 4096, or 0.
     pub output: u64,
-    /// The region's guest physical address: a multiple of 4096, with address + total at most 2^64.
+    /// The region's guest physical address: a multiple of 4096, at least [`MIN_BASE`](crate::MIN_BASE), with address + total
+    /// at most 2^64.
     pub base: u64,
     /// The protocol that the peers speak.
     pub protocol: u16,
@@ -47,6 +48,24 @@ pub struct Settings {
     pub subsystem_vendor: u16,
     /// PCI subsystem number.
     pub subsystem: u16,
+}
+
+/// The smallest hub, which set-up takes: two peers with one vector, a State Table of one page and no other section, the region
+/// at 4 GiB.
+impl Default for Settings {
+    fn default() -> Settings {
+        Settings {
+            peers: 2,
+            vectors: 1,
+            state_table: 4096,
+            read_write: 0,
+            output: 0,
+            base: 0x1_0000_0000,
+            protocol: 0,
+            subsystem_vendor: 0,
+            subsystem: 0,
+        }
+    }
 }
 
 impl Settings {

@@ -4,7 +4,7 @@ use std::error::Error;
 
 use ivshmem::raw::{self, Reply};
 use ivshmem::{
-    CONFIGURATION_BYTES, Delivery, Hub, MAX_HUB_WORDS, MAX_PEERS, MAX_VECTORS, MSIX_BYTES, PeerId, Placement,
+    CONFIGURATION_BYTES, Delivery, Hub, MAX_HUB_WORDS, MAX_PEERS, MAX_VECTORS, MIN_BASE, MSIX_BYTES, PeerId, Placement,
     REGISTER_BYTES, Refusal, Section, Settings, Vector, hub_words, msix, register,
 };
 
@@ -146,6 +146,33 @@ fn sizes() {
             assert_eq!(reply.number, if taken { number } else { 1 }, "{peers} by {vectors}, {words} words");
         }
     }
+}
+
+/// The lowest base is the library's.
+#[test]
+fn bases() {
+    let mut region = vec![0; SETTINGS.total().unwrap()];
+    let last = u64::MAX - region.len() as u64 + 1;
+    for (base, number) in [
+        (0, 1),
+        (MIN_BASE - 4096, 1),
+        (MIN_BASE - 1, 1),
+        (MIN_BASE, 0),
+        (MIN_BASE + 4096, 0),
+        (last, 0),
+        (last + 4096, 1),
+    ] {
+        let reply = raw::set_up(&mut ANY.clone(), &mut region, &Settings { base, ..SETTINGS });
+        assert_eq!(reply.number, number, "base {base:#x}");
+    }
+}
+
+#[test]
+fn default_settings_are_taken() {
+    let settings = Settings::default();
+    let mut words = vec![7; settings.hub_words().unwrap()];
+    let mut region = vec![7; settings.total().unwrap()];
+    assert!(Hub::set_up(&mut words, &settings, &mut region).is_ok());
 }
 
 #[test]

@@ -7,6 +7,7 @@ use ivshmem::Settings;
 use crate::call::{Call, Event};
 use crate::count::Counts;
 use crate::generate::Generator;
+use crate::hub::Hub;
 use crate::layout::decode;
 use crate::shrink::shrink;
 use crate::subject::{Answer, Model, Subject};
@@ -66,7 +67,7 @@ impl<S: Subject> Pair<S> {
         if let Some(event) = generator.planned() {
             return event;
         }
-        let hub = decode(self.models.hub_words()).unwrap_or_default();
+        let hub = decode(self.models.hub_words()).unwrap_or(Hub::NONE);
         generator.next(&hub, self.models.total())
     }
 }

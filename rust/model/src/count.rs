@@ -7,7 +7,7 @@ use ivshmem::{MAX_HUB_WORDS, Settings, register};
 
 use crate::call::{Call, KINDS};
 use crate::generate::{FEW_PEERS, FEW_VECTORS};
-use crate::hub::{Block, MAX_PEERS, MAX_VECTORS, Numbers, Ring};
+use crate::hub::{Block, MAX_PEERS, MAX_VECTORS, MIN_BASE, Numbers, Ring};
 use crate::subject::{Answer, Handed, Model};
 
 /// The numbers that each kind of call can answer, in the order of [`KINDS`].
@@ -135,6 +135,17 @@ pub const WORDS: [(&str, u64); 22] = [
 /// How many of [`WORDS`], from the first on, are calls but set-ups.
 pub const ON_WRONG_WORDS: usize = 9;
 
+/// What is counted of the base, and how often it must be seen in a million calls of random histories.
+pub const BASES: [(&str, u64); 7] = [
+    ("set-ups at base 0 refused with 1 for the base alone", 1),
+    ("set-ups at FF000h refused with 1 for the base alone", 1),
+    ("set-ups at 100000h taken", 1),
+    ("set-ups that end at 2^64 taken", 1),
+    ("calls on hubs sound but for base 0", 1),
+    ("calls on hubs sound but for base FF000h", 1),
+    ("calls taken on hubs at 100000h", 1),
+];
+
 /// Counts of calls by kind and number, of rings by outcome, and of what is at the edges of the sizes.
 #[derive(Clone, Debug, Default)]
 pub struct Counts {
@@ -154,6 +165,8 @@ pub struct Counts {
     pub lost_otherwise: u64,
     /// In the order of [`SIZES`].
     pub sizes: [u64; SIZES.len()],
+    /// In the order of [`BASES`].
+    pub bases: [u64; BASES.len()],
     /// In the order of [`STATES`].
     pub states: [u64; STATES.len()],
     /// In the order of [`WORDS`].
@@ -174,6 +187,9 @@ impl Counts {
         self.calls[call.kind()][answer.number as usize] += 1;
         self.several += u64::from(answer.count > 1);
         for (count, holds) in self.sizes.iter_mut().zip(at_sizes(call, answer, model)) {
+            *count += u64::from(holds);
+        }
+        for (count, holds) in self.bases.iter_mut().zip(at_bases(call, answer, model)) {
             *count += u64::from(holds);
         }
         for (count, holds) in self.states.iter_mut().zip(at_states(call, answer, model)) {
@@ -199,10 +215,11 @@ impl Counts {
         }
     }
 
-    /// The counts of [`SIZES`], [`STATES`] and [`WORDS`], each with its name and its least.
+    /// The counts of [`SIZES`], [`BASES`], [`STATES`] and [`WORDS`], each with its name and its least.
     fn named(&self) -> impl Iterator<Item = (&(&'static str, u64), u64)> {
         let sizes = SIZES.iter().zip(self.sizes);
-        sizes.chain(STATES.iter().zip(self.states)).chain(WORDS.iter().zip(self.words))
+        let bases = BASES.iter().zip(self.bases);
+        sizes.chain(bases).chain(STATES.iter().zip(self.states)).chain(WORDS.iter().zip(self.words))
     }
 
     fn add_lost(&mut self, blocks: &[Block]) {
@@ -212,8 +229,8 @@ impl Counts {
         }
     }
 
-    /// What is not covered `least` times, or of [`SIZES`], [`STATES`] and [`WORDS`] as often as they ask, or should never have
-    /// been answered, in words; empty is good.
+    /// What is not covered `least` times, or of [`SIZES`], [`BASES`], [`STATES`] and [`WORDS`] as often as they ask, or should
+    /// never have been answered, in words; empty is good.
     #[must_use]
     pub fn gaps(&self, least: u64) -> Vec<String> {
         let mut gaps = Vec::new();
@@ -271,6 +288,24 @@ fn at_sizes(call: &Call, answer: &Answer, model: &Model) -> [bool; SIZES.len()] 
         matches!(call, Call::SetUp(Settings { peers: PEERS, vectors: VECTORS, .. })) && taken,
         matches!(call, Call::SetUp(Settings { peers: TOO_MANY_PEERS, .. })) && answer.number == 1,
         matches!(call, Call::SetUp(Settings { vectors: TOO_MANY_VECTORS, .. })) && answer.number == 1,
+    ]
+}
+
+/// Which of [`BASES`] a call is.
+fn at_bases(call: &Call, answer: &Answer, model: &Model) -> [bool; BASES.len()] {
+    const BELOW: u64 = MIN_BASE - 4096;
+    let settings = if let Call::SetUp(settings) = call { Some(Numbers::from(settings)) } else { None };
+    let taken = settings.filter(|_| answer.number == 0);
+    let low = settings.filter(|n| answer.number == 1 && Numbers { base: MIN_BASE, ..*n }.accepted());
+    let base = |numbers: Option<Numbers>| numbers.map(|n| n.base);
+    [
+        base(low) == Some(0),
+        base(low) == Some(BELOW),
+        base(taken) == Some(MIN_BASE),
+        taken.is_some_and(|n| u128::from(n.base) + n.total() == 1 << 64),
+        model.handed.low_base == Some(0),
+        model.handed.low_base == Some(BELOW),
+        settings.is_none() && answer.number == 0 && model.numbers.base == MIN_BASE,
     ]
 }
 

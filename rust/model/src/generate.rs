@@ -5,8 +5,8 @@ use std::collections::VecDeque;
 use ivshmem::{MAX_HUB_WORDS, Settings};
 
 use crate::call::{Call, Event, KINDS, Lengths, USUAL_RECORDS};
-use crate::hub::{Hub, MAX_PEERS, MAX_VECTORS, Numbers};
-use crate::layout::{hub_words, state_word};
+use crate::hub::{Hub, MAX_PEERS, MAX_VECTORS, MIN_BASE, Numbers};
+use crate::layout::{BASE_WORDS, hub_words, state_word};
 use crate::random::Random;
 use crate::world::{LONGEST_REGION, MOST_RECORDS};
 
@@ -71,6 +71,7 @@ impl Generator {
             3..9 => self.plan_damage(hub, total),
             9..10 => self.plan_set_up(),
             10..14 => self.plan_other_state(hub),
+            14..15 => self.plan_low_base(hub, total),
             _ => {}
         }
         if let Some(event) = self.planned() {
@@ -553,6 +554,20 @@ impl Generator {
         self.planned.push_back(Event::Flip { word, bits });
     }
 
+    /// The base is another, mostly a lower one than set-up takes; calls are made, and it is what it was.
+    fn plan_low_base(&mut self, hub: &Hub, total: usize) {
+        let other = self.random.pick(&[0, PAGE, MIN_BASE - PAGE, MIN_BASE - PAGE, MIN_BASE, HIGH]);
+        let bits = hub.numbers.base ^ other;
+        let turn = BASE_WORDS.into_iter().zip([bits as u32, (bits >> 32) as u32]);
+        let turn = turn.filter(|(_, bits)| *bits != 0).map(|(word, bits)| Event::Flip { word, bits });
+        self.planned.extend(turn.clone());
+        for _ in 0..4 {
+            let event = self.any_call(hub, total);
+            self.planned.push_back(event);
+        }
+        self.planned.extend(turn);
+    }
+
     /// Reads all that one peer can read.
     fn plan_sweep(&mut self, hub: &Hub) {
         let id = self.id(hub);
@@ -600,7 +615,7 @@ pub fn good_settings(random: &mut Random) -> Settings {
         state_table: random.pick(&[PAGE, PAGE, 2 * PAGE]),
         read_write: random.pick(&[0, PAGE, PAGE, 2 * PAGE]),
         output: random.pick(&[0, PAGE, PAGE, 2 * PAGE]),
-        base: 0,
+        base: MIN_BASE,
         protocol: random.word() as u16,
         subsystem_vendor: random.word() as u16,
         subsystem: random.word() as u16,
@@ -616,7 +631,8 @@ pub fn good_settings(random: &mut Random) -> Settings {
     debug_assert!(total <= LONGEST_REGION);
     let last = TOP - total as u64 + 1;
     let any = random.long() / 2;
-    settings.base = random.pick(&[0, PAGE, HIGH - PAGE, any - any % PAGE, last]);
+    settings.base =
+        random.pick(&[MIN_BASE, MIN_BASE + PAGE, HIGH - PAGE, HIGH, (any - any % PAGE).max(MIN_BASE), last]);
     settings
 }
 
@@ -624,18 +640,21 @@ pub fn good_settings(random: &mut Random) -> Settings {
 pub fn spoiled(random: &mut Random, good: Settings) -> Settings {
     let wrong_size =
         random.pick(&[1, 4095, 4097, 4100, 1 << 30, (1 << 30) + PAGE, HIGH, HIGH + PAGE, TOP, TOP - 4095, 1 << 63]);
-    match random.below(11) {
+    match random.below(12) {
         0..2 => Settings { peers: random.pick(&[0, 1, 2, PEERS, PEERS + 1, PEERS + 1, HIGH + 2, TOP]), ..good },
         2..4 => Settings { vectors: random.pick(&[0, 1, VECTORS, VECTORS + 1, VECTORS + 1, HIGH + 1, TOP]), ..good },
         4 => Settings { state_table: random.pick(&[0, 0, wrong_size]), ..good },
         5 => Settings { read_write: wrong_size, ..good },
         6 => Settings { output: random.pick(&[wrong_size, 1 << 58, 1 << 61, 1 << 62, 1 << 29, 1 << 27]), ..good },
-        7 => Settings { base: random.pick(&[1, 4095, TOP, TOP - 4095, good.base + 1]), ..good },
+        7 => Settings { base: random.pick(&[MIN_BASE + 1, MIN_BASE + 4095, TOP, TOP - 4095, good.base + 1]), ..good },
         8 => {
+            Settings { base: random.pick(&[0, PAGE, MIN_BASE - PAGE, MIN_BASE - PAGE, MIN_BASE - 1, MIN_BASE]), ..good }
+        }
+        9 => {
             let total = Numbers::from(&good).total() as u64;
             Settings { base: (TOP - total + 1).wrapping_add(random.pick(&[PAGE, 0, 1, TOP - PAGE + 1])), ..good }
         }
-        9 => {
+        10 => {
             let mut large = large_settings(random);
             large.read_write += random.pick(&[PAGE, 0, 2 * PAGE]);
             large
@@ -647,7 +666,7 @@ pub fn spoiled(random: &mut Random, good: Settings) -> Settings {
 /// Settings whose total is 2^30 exactly, or far above what the host makes.
 pub fn large_settings(random: &mut Random) -> Settings {
     let mut settings = good_settings(random);
-    settings.base = random.pick(&[0, HIGH, TOP - (1 << 30) + 1]);
+    settings.base = random.pick(&[MIN_BASE, HIGH, TOP - (1 << 30) + 1]);
     let half = (1 << 29) / settings.peers;
     settings.output = random.pick(&[0, PAGE, 1 << 20, half - half % PAGE]);
     let rest = (1 << 30) - settings.peers * settings.output;

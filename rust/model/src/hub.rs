@@ -8,9 +8,11 @@ use ivshmem::{Delivery, PeerId, Section, Vector};
 pub const MAX_PEERS: usize = 64;
 /// See [`MAX_PEERS`].
 pub const MAX_VECTORS: usize = 16;
+/// "Set-up refuses a base below 100000h with 1; exactly 100000h is taken."
+pub const MIN_BASE: u64 = 0x10_0000;
 
 /// "Numbers accepted at set-up": all of them, wide enough for anything that memory can hold.
-#[derive(Clone, Copy, Debug, Default, PartialEq, Eq)]
+#[derive(Clone, Copy, Debug, PartialEq, Eq)]
 pub struct Numbers {
     pub peers: u64,
     pub vectors: u64,
@@ -43,6 +45,19 @@ impl From<&ivshmem::Settings> for Numbers {
 }
 
 impl Numbers {
+    /// What stands in words that are no hub.
+    pub const ZERO: Numbers = Numbers {
+        peers: 0,
+        vectors: 0,
+        state_table: 0,
+        read_write: 0,
+        output: 0,
+        base: 0,
+        protocol: 0,
+        subsystem_vendor: 0,
+        subsystem: 0,
+    };
+
     /// T = S + R + N*O; 128 bits hold it whatever the numbers are.
     #[must_use]
     pub fn total(&self) -> u128 {
@@ -65,6 +80,7 @@ impl Numbers {
             && whole_pages(self.output)
             && self.total() <= 1 << 30
             && whole_pages(self.base)
+            && self.base >= MIN_BASE
             && u128::from(self.base) + self.total() <= 1 << 64
             && [self.protocol, self.subsystem_vendor, self.subsystem].iter().all(|&n| n <= 0xffff)
     }
@@ -210,8 +226,8 @@ pub struct Placement {
 }
 
 /// Settings, peers and their MSI-X entries, in any state that memory can hold: as many peers as the settings say, and of each
-/// as many entries, one peer's after another's. The default is what stands in words that are no hub: nothing.
-#[derive(Clone, Debug, Default, PartialEq, Eq)]
+/// as many entries, one peer's after another's.
+#[derive(Clone, Debug, PartialEq, Eq)]
 pub struct Hub {
     pub numbers: Numbers,
     pub peers: Vec<Peer>,
@@ -219,6 +235,9 @@ pub struct Hub {
 }
 
 impl Hub {
+    /// What stands in words that are no hub: nothing.
+    pub const NONE: Hub = Hub { numbers: Numbers::ZERO, peers: Vec::new(), entries: Vec::new() };
+
     /// A hub with these numbers, which are not too large, and nobody connected.
     #[must_use]
     pub fn fresh(numbers: Numbers) -> Hub {

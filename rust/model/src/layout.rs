@@ -7,13 +7,17 @@
 
 use std::ops::Range;
 
-use crate::hub::{Entry, Hub, MAX_PEERS, MAX_VECTORS, Numbers, Peer};
+use crate::hub::{Entry, Hub, MAX_PEERS, MAX_VECTORS, MIN_BASE, Numbers, Peer};
 
 const PEER_WORDS: usize = 8;
 const PEERS_AT: usize = 10;
 
-// The model has its sizes from the rules, the wrapper from the library: they agree.
+/// The words of the base, its low half first.
+pub const BASE_WORDS: [usize; 2] = [5, 6];
+
+// The model has its bounds from the rules, the wrapper from the library: they agree.
 const _: () = assert!(MAX_PEERS == ivshmem::MAX_PEERS && MAX_VECTORS == ivshmem::MAX_VECTORS);
+const _: () = assert!(MIN_BASE == ivshmem::MIN_BASE);
 
 /// How many words a hub with these numbers has, or more than any memory holds.
 #[must_use]

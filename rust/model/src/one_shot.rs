@@ -235,11 +235,11 @@ pub fn run<S: Subject>(make: impl Fn() -> S, seed: u64, calls: u64) -> Result<Ta
         watch.peers = [None; MAX_PEERS];
         generator.begin();
         while !generator.finished() {
-            let before = decode(world.hub_words()).unwrap_or_default();
+            let before = decode(world.hub_words()).unwrap_or(Hub::NONE);
             let event = generator.next(&before, world.total());
             let Event::Call(call, _) = &event else { continue };
             let answer = world.apply(&mut subject, &event).expect("a call has an answer");
-            let after = decode(world.hub_words()).unwrap_or_default();
+            let after = decode(world.hub_words()).unwrap_or(Hub::NONE);
             let delivered = &world.table()[..answer.count];
             watch.take(&Seen { call, accepted: answer.number == 0, before: &before, after: &after, delivered })?;
         }

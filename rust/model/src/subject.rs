@@ -6,7 +6,7 @@ use ivshmem::raw::{self, Counted, Reply};
 use ivshmem::{Delivery, Section, register};
 
 use crate::call::Call;
-use crate::hub::{Hub, MAX_PEERS, MAX_VECTORS, Numbers, Refused, Ring};
+use crate::hub::{Hub, MAX_PEERS, MAX_VECTORS, MIN_BASE, Numbers, Refused, Ring};
 use crate::layout::{decode, decode_numbers, encode, hub_words};
 
 /// Everything that a call answers; what its kind has not stays 0.
@@ -85,7 +85,6 @@ impl Subject for Library {
 }
 
 /// The model. It also keeps what happened in the last call, to be counted.
-#[derive(Default)]
 pub struct Model {
     /// What became of its rings, in order.
     pub rings: Vec<Ring>,
@@ -98,6 +97,13 @@ pub struct Model {
     pub handed: Handed,
     /// In an accepted State store, reset or disconnect, what it met.
     pub met: Option<Met>,
+}
+
+impl Default for Model {
+    fn default() -> Model {
+        let (rings, also) = (Vec::new(), Vec::new());
+        Model { rings, also, numbers: Numbers::ZERO, records: 0, handed: Handed::default(), met: None }
+    }
 }
 
 /// What a call that stores State meets: the value, what the register and the State Table entry hold before, and whether a
@@ -148,6 +154,8 @@ pub struct Handed {
     pub sound_in_front: bool,
     /// Whether they would be a sound hub with another word 0, and with another word 1; and what stands there.
     pub but_for: [Option<u32>; 2],
+    /// The base below the lowest, where the words would be a sound hub with the lowest.
+    pub low_base: Option<u64>,
 }
 
 impl Handed {
@@ -162,7 +170,7 @@ impl Handed {
             };
         }
         let asked = hub_words(&decode_numbers(words));
-        let handed = Handed { words: words.len(), asked, ..Handed::default() };
+        let handed = Handed { words: words.len(), asked, low_base: sound_but_for_base(words), ..Handed::default() };
         if words.len() as u128 == asked {
             return handed;
         }
@@ -188,13 +196,23 @@ fn sound_but_for(words: &[u32], place: usize) -> Option<u32> {
         .then_some(found)
 }
 
+/// The base, where it is too low and nothing else is wrong.
+fn sound_but_for_base(words: &[u32]) -> Option<u64> {
+    let found = decode_numbers(words).base;
+    if found >= MIN_BASE {
+        return None;
+    }
+    let hub = decode(words)?;
+    Hub { numbers: Numbers { base: MIN_BASE, ..hub.numbers }, ..hub }.sound().then_some(found)
+}
+
 impl Subject for Model {
     fn perform(&mut self, call: &Call, lent: Lent<'_>) -> Answer {
         let handed = Handed::of(lent.words, call);
         let fit = handed.words as u128 == handed.asked;
         *self = Model { records: lent.table.len(), handed, ..Model::default() };
         let mut hub = match call {
-            Call::SetUp(_) => Hub::default(),
+            Call::SetUp(_) => Hub::NONE,
             _ if fit => decode(lent.words).expect("as many words as they ask for"),
             // Words of another number are no hub, whatever they hold.
             _ => return self.refused(Refused(vec![10])),

@@ -4,7 +4,7 @@ use ivshmem::{Delivery, PeerId, Settings, Vector, hub_words};
 use model::call::{Call, Event, Lengths};
 use model::compare::Pair;
 use model::count::Counts;
-use model::layout::state_word;
+use model::layout::{BASE_WORDS, state_word};
 use model::subject::{Answer, Library};
 
 struct Bench(Pair<Library>);
@@ -178,8 +178,18 @@ fn numbers_accepted_at_set_up() {
         assert_eq!(number(Settings { read_write, ..good }), expected);
     }
     let last = u64::MAX - 4095;
-    for (base, state_table, expected) in [(last, 4096, 0), (last, 8192, 1), (1, 4096, 1)] {
-        assert_eq!(number(Settings { base, state_table, ..good }), expected);
+    for (base, state_table, expected) in [
+        (0, 4096, 1),
+        (0xf_f000, 4096, 1),
+        (0xf_f000, 8192, 1),
+        (0x10_0000, 4096, 0),
+        (0x10_0001, 4096, 1),
+        (0x10_1000, 4096, 0),
+        (1 << 32, 4096, 0),
+        (last, 4096, 0),
+        (last, 8192, 1),
+    ] {
+        assert_eq!(number(Settings { base, state_table, ..good }), expected, "base {base:#x}");
     }
 }
 
@@ -302,10 +312,41 @@ fn refused_set_ups() {
     }
 }
 
+/// "Sound: the set-up numbers would be accepted": every call on a hub whose stored base is below the lowest, or at it.
+#[test]
+fn stored_bases() {
+    let settings = Settings { base: 0x10_0000, output: 4096, ..four_peers(4) };
+    for (base, number) in [(0, 10), (0xf_f000, 10), (0x10_0000, 0), (0x10_1000, 0)] {
+        for call in every_call() {
+            let mut bench = Bench::new(settings, &[0]);
+            let mut words = bench.0.world().hub_words().to_vec();
+            words[BASE_WORDS[0]] = base;
+            bench.0.put(&words, &settings);
+            let answer = bench.answer(call.clone());
+            assert_eq!(answer.number, number, "{call}, base {base:#x}");
+            assert_eq!(bench.0.world().hub_words()[BASE_WORDS[0]], base);
+        }
+    }
+}
+
 /// Every call on words that are one too few or too many, or too few to say how many they should be.
 #[test]
 fn words_of_another_number() {
-    let calls = [
+    let right = hub_words(4, 4) as i64;
+    let mut bench = Bench::new(Settings { output: 4096, ..four_peers(4) }, &[0]);
+    for call in every_call() {
+        for words in [-1, 1, -right, 1 - right, 2 - right, 10 - right] {
+            let answer = bench.answer(Event::Call(call.clone(), Lengths { words, ..Lengths::USUAL }));
+            assert_eq!(answer, Answer { number: 10, ..Answer::default() }, "{call}");
+        }
+        assert_eq!(bench.number(call.clone()), 0, "{call}");
+        bench.answer(Call::Connect { id: 0 });
+    }
+}
+
+/// A call of every kind but set-up, each taken on a hub of four peers with output sections of which the first is connected.
+fn every_call() -> [Call; 12] {
+    [
         Call::Connect { id: 1 },
         Call::Disconnect { id: 0 },
         Call::Reset { id: 0 },
@@ -318,17 +359,7 @@ fn words_of_another_number() {
         Call::Section { id: 0, offset: 0, length: 1 },
         Call::Load { id: 0, offset: 0, length: 1 },
         Call::Store { id: 0, offset: 4096, length: 1, fill: 7 },
-    ];
-    let right = hub_words(4, 4) as i64;
-    let mut bench = Bench::new(Settings { output: 4096, ..four_peers(4) }, &[0]);
-    for call in calls {
-        for words in [-1, 1, -right, 1 - right, 2 - right, 10 - right] {
-            let answer = bench.answer(Event::Call(call.clone(), Lengths { words, ..Lengths::USUAL }));
-            assert_eq!(answer, Answer { number: 10, ..Answer::default() }, "{call}");
-        }
-        assert_eq!(bench.number(call.clone()), 0, "{call}");
-        bench.answer(Call::Connect { id: 0 });
-    }
+    ]
 }
 
 /// The largest region there is; it takes a gigabyte.

@@ -3,11 +3,11 @@
 
 use std::collections::HashMap;
 
-use ivshmem::{MAX_PEERS, MAX_VECTORS, Section};
+use ivshmem::{MAX_PEERS, MAX_VECTORS, MIN_BASE, Section, Settings};
 use model::call::Call;
 use model::compare::{self, Failure};
 use model::hub::{Block, Hub, Numbers, Ring};
-use model::layout::{decode, decode_numbers, encode, hub_words};
+use model::layout::{BASE_WORDS, decode, decode_numbers, encode, hub_words};
 use model::one_shot;
 use model::subject::{Answer, Lent, Met, Model, Subject};
 
@@ -412,6 +412,38 @@ fn loses_the_high_half_of_word_0() {
             lent.words[0] &= 0xffff;
             let answer = model.perform(call, again(&mut lent));
             lent.words[0] |= high;
+            answer
+        }
+    });
+}
+
+#[test]
+fn takes_a_page_of_low_memory() {
+    is_found("the lowest base is a page lower", 1, || {
+        |model: &mut Model, call: &Call, mut lent: Lent<'_>| {
+            const LOW: u64 = MIN_BASE - 4096;
+            let Call::SetUp(settings @ Settings { base: LOW, .. }) = call else { return model.perform(call, lent) };
+            let answer = model.perform(&Call::SetUp(Settings { base: MIN_BASE, ..*settings }), again(&mut lent));
+            if answer.number == 0 {
+                lent.words[BASE_WORDS[0]] = LOW as u32;
+            }
+            answer
+        }
+    });
+}
+
+#[test]
+fn answers_on_a_hub_in_low_memory() {
+    is_found("a stored base may be any", 4, || {
+        |model: &mut Model, call: &Call, mut lent: Lent<'_>| {
+            let low = decode_numbers(lent.words).base < MIN_BASE && lent.words.len() > BASE_WORDS[1];
+            if !low || matches!(call, Call::SetUp(_)) {
+                return model.perform(call, lent);
+            }
+            let base = lent.words[BASE_WORDS[0]];
+            lent.words[BASE_WORDS[0]] = MIN_BASE as u32;
+            let answer = model.perform(call, again(&mut lent));
+            lent.words[BASE_WORDS[0]] = base;
             answer
         }
     });
