@@ -137,14 +137,16 @@ pub const ON_WRONG_WORDS: usize = 9;
 
 /// What is counted of the base, and how often it must be seen in a million calls of random histories.
 pub const BASES: [(&str, u64); 7] = [
-    ("set-ups at base 0 refused with 1 for the base alone", 1),
-    ("set-ups at FF000h refused with 1 for the base alone", 1),
-    ("set-ups at 100000h taken", 1),
-    ("set-ups that end at 2^64 taken", 1),
-    ("calls on hubs sound but for base 0", 1),
-    ("calls on hubs sound but for base FF000h", 1),
-    ("calls taken on hubs at 100000h", 1),
+    ("calls on hubs sound but for base 0", 100),
+    ("calls on hubs sound but for base FF000h", 250),
+    ("calls taken on hubs at 100000h", 70_000),
+    ("set-ups at base 0 refused with 1 for the base alone", 30),
+    ("set-ups at FF000h refused with 1 for the base alone", 60),
+    ("set-ups at 100000h taken", 400),
+    ("set-ups that end at 2^64 taken", 400),
 ];
+/// How many of [`BASES`], from the first on, are calls but set-ups.
+pub const ON_BASES: usize = 3;
 
 /// Counts of calls by kind and number, of rings by outcome, and of what is at the edges of the sizes.
 #[derive(Clone, Debug, Default)]
@@ -299,13 +301,13 @@ fn at_bases(call: &Call, answer: &Answer, model: &Model) -> [bool; BASES.len()] 
     let low = settings.filter(|n| answer.number == 1 && Numbers { base: MIN_BASE, ..*n }.accepted());
     let base = |numbers: Option<Numbers>| numbers.map(|n| n.base);
     [
+        model.handed.low_base == Some(0),
+        model.handed.low_base == Some(BELOW),
+        settings.is_none() && answer.number == 0 && model.numbers.base == MIN_BASE,
         base(low) == Some(0),
         base(low) == Some(BELOW),
         base(taken) == Some(MIN_BASE),
         taken.is_some_and(|n| u128::from(n.base) + n.total() == 1 << 64),
-        model.handed.low_base == Some(0),
-        model.handed.low_base == Some(BELOW),
-        settings.is_none() && answer.number == 0 && model.numbers.base == MIN_BASE,
     ]
 }
 
@@ -339,7 +341,7 @@ fn at_states(call: &Call, answer: &Answer, model: &Model) -> [bool; STATES.len()
 
 /// Which of [`WORDS`] a call is.
 fn at_words(call: &Call, answer: &Answer, model: &Model) -> [bool; WORDS.len()] {
-    let Handed { words, asked, in_use, sound, sound_in_front, but_for } = model.handed;
+    let Handed { words, asked, in_use, sound, sound_in_front, but_for, .. } = model.handed;
     let (lent, number) = (words as u128, answer.number);
     let largest = words == MAX_HUB_WORDS;
     let set_up = matches!(call, Call::SetUp(_));

@@ -4,6 +4,7 @@ use std::collections::BTreeSet;
 
 use crate::call::{Call, Event, Lengths};
 use crate::compare::{Failure, replay};
+use crate::hub::MIN_BASE;
 use crate::subject::Subject;
 
 /// How often a number is made simpler, and how often the whole is gone over.
@@ -158,6 +159,7 @@ enum Field<'a> {
     Half(&'a mut u16),
     Word(&'a mut u32),
     Long(&'a mut u64),
+    Base(&'a mut u64),
     Size(&'a mut usize),
 }
 
@@ -175,6 +177,9 @@ impl Field<'_> {
             Field::Half(number) => *number = lowered(u64::from(*number)) as u16,
             Field::Word(number) => *number = lowered(u64::from(*number)) as u32,
             Field::Long(number) => *number = lowered(*number),
+            // The lowest that set-up takes is simpler than any other.
+            Field::Base(number) if step == 1 => *number = MIN_BASE.min(*number),
+            Field::Base(number) => *number = lowered(*number),
             Field::Size(number) => *number = lowered(*number as u64) as usize,
         }
     }
@@ -188,7 +193,7 @@ fn field_of(call: &mut Call, field: usize) -> Option<Field<'_>> {
             Field::Long(&mut s.state_table),
             Field::Long(&mut s.read_write),
             Field::Long(&mut s.output),
-            Field::Long(&mut s.base),
+            Field::Base(&mut s.base),
             Field::Half(&mut s.protocol),
             Field::Half(&mut s.subsystem_vendor),
             Field::Half(&mut s.subsystem),

@@ -5,10 +5,10 @@ use std::io::Write;
 use ivshmem::{MAX_HUB_WORDS, Settings};
 use model::call::{Call, Event, KINDS, Lengths};
 use model::compare::{Pair, replay};
-use model::count::{Counts, ON_LARGE_HUBS, ON_WRONG_WORDS};
+use model::count::{Counts, ON_BASES, ON_LARGE_HUBS, ON_WRONG_WORDS};
 use model::generate::{Generator, good_settings, large_settings};
-use model::hub::{Entry, Hub, MAX_PEERS, MAX_VECTORS, Numbers, Peer};
-use model::layout::{decode, encode, hub_words};
+use model::hub::{Entry, Hub, MAX_PEERS, MAX_VECTORS, MIN_BASE, Numbers, Peer};
+use model::layout::{BASE_WORDS, decode, encode, hub_words};
 use model::random::Random;
 use model::subject::Library;
 
@@ -89,9 +89,14 @@ fn sound(random: &mut Random) -> Handed {
     Handed { words: encode(&taken_for), settings, taken_for }
 }
 
-/// A sound hub, with a few bits turned over.
+/// A sound hub, with a base below the lowest or with a few bits turned over.
 fn damaged(random: &mut Random) -> Handed {
     let mut handed = sound(random);
+    if random.chance(1, 8) {
+        let base = random.pick(&[0, MIN_BASE as u32 - 4096]);
+        (handed.words[BASE_WORDS[0]], handed.words[BASE_WORDS[1]]) = (base, 0);
+        return handed;
+    }
     let (peers, all) = (10 + 8 * handed.settings.peers, handed.words.len() as u64);
     for _ in 0..random.pick(&[1, 1, 1, 2, 3]) {
         // Settings and switches are few beside addresses and data.
@@ -241,14 +246,18 @@ fn hand_in(name: &str, seed: u64, sorts: &Sorts) -> ([Seen; 3], Counts) {
 
 #[test]
 fn any_memory_as_hub() {
-    let sorts: Sorts =
-        [("sound but for a few bits", damaged), ("plausible settings, random registers", dirty), ("noise", noise)];
+    let sorts: Sorts = [
+        ("sound but for a few bits or the base", damaged),
+        ("plausible settings, random registers", dirty),
+        ("noise", noise),
+    ];
     let (seen, counts) = hand_in("any memory as hub", 31, &sorts);
     for seen in &seen[..2] {
         assert!(seen.sound >= 10_000 && seen.hubs - seen.sound >= 10_000);
         assert!(seen.largest_sound >= 1_000 && seen.largest - seen.largest_sound >= 1_000);
     }
     assert!(counts.sizes[..ON_LARGE_HUBS].iter().all(|&calls| calls >= 10_000));
+    assert!(counts.bases[..ON_BASES].iter().all(|&calls| calls >= 10_000));
 }
 
 #[test]
