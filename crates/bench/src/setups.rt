@@ -82,8 +82,8 @@ fn pages(memory: &mut Memory, region: &mut Region) {
     each(memory, region, &rows);
 }
 
-// Bases below the lowest, also where the region ends there or beyond it; the lowest; one whose low 32 bits are 0; the last for
-// such a region. Then 1 before 2.
+// Bases below the lowest, also where the region ends there or beyond it; the lowest and the next; one whose low 32 bits are 0; the
+// last for such a region. Then 1 before 2.
 fn bases(memory: &mut Memory, region: &mut Region) {
     let rows = [
         [2, 1, 4096, 0, 0, 0, 4096],

@@ -287,7 +287,7 @@ fn refused(size: Size) -> Vec<Case> {
             width: 4,
         })
         .refused(3),
-        case("set up", &|_, k| Call::SetUp(Settings { base: 1 + k, ..settings })).refused(1),
+        case("set up", &|_, k| Call::SetUp(Settings { base: settings.base + 1 + k, ..settings })).refused(1),
         case("set up", &|_, k| Call::SetUp(Settings { protocol: k as u16, peers: size.peers - 1, ..settings }))
             .refused(10),
         case("connect", &|id, _| Call::Connect { id }).refused(5),

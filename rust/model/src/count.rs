@@ -59,7 +59,7 @@ const VECTORS: u64 = MAX_VECTORS as u64;
 const LAST_VECTOR: u64 = VECTORS - 1;
 const TOO_MANY_VECTORS: u64 = VECTORS + 1;
 // The names below have these numbers in them.
-const _: () = assert!(FEW_PEERS == 8 && PEERS == 64 && FEW_VECTORS == 4 && VECTORS == 16);
+const _: () = assert!(FEW_PEERS == 8 && PEERS == 64 && FEW_VECTORS == 4 && VECTORS == 16 && MIN_BASE == 0x10_0000);
 
 /// What is counted of the sizes, and how often it must be seen in a million calls of random histories.
 pub const SIZES: [(&str, u64); 20] = [

@@ -36,7 +36,7 @@ pub fn decode_numbers(words: &[u32]) -> Numbers {
         state_table: number(2),
         read_write: number(3),
         output: number(4),
-        base: number(6) << 32 | number(5),
+        base: number(BASE_WORDS[1]) << 32 | number(BASE_WORDS[0]),
         protocol: number(7),
         subsystem_vendor: number(8),
         subsystem: number(9),

@@ -177,7 +177,7 @@ impl Field<'_> {
             Field::Half(number) => *number = lowered(u64::from(*number)) as u16,
             Field::Word(number) => *number = lowered(u64::from(*number)) as u32,
             Field::Long(number) => *number = lowered(*number),
-            // The lowest that set-up takes is simpler than any other.
+            // The lowest that set-up takes is simpler than others that it takes.
             Field::Base(number) if step == 1 => *number = MIN_BASE.min(*number),
             Field::Base(number) => *number = lowered(*number),
             Field::Size(number) => *number = lowered(*number as u64) as usize,

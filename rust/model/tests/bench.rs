@@ -312,7 +312,8 @@ fn refused_set_ups() {
     }
 }
 
-/// "Sound: the set-up numbers would be accepted": every call on a hub whose stored base is below the lowest, or at it.
+/// "Sound: the set-up numbers would be accepted": every call on a hub whose stored base is below the lowest, at it
+/// or above.
 #[test]
 fn stored_bases() {
     let settings = Settings { base: 0x10_0000, output: 4096, ..four_peers(4) };
@@ -344,7 +345,7 @@ fn words_of_another_number() {
     }
 }
 
-/// A call of every kind but set-up, each taken on a hub of four peers with output sections of which the first is connected.
+/// A call of every kind but set-up, each taken on a hub with output sections of whose four peers the first is connected.
 fn every_call() -> [Call; 12] {
     [
         Call::Connect { id: 1 },

@@ -18,8 +18,8 @@ fn library_and_model_agree() {
     let _ = writeln!(std::io::stdout().lock(), "{counts}\n{:.1} s", start.elapsed().as_secs_f64());
     assert!(counts.total() >= CALLS);
 
-    // Every answer that a call can give, every switch that alone stops a ring, the edges of the sizes, words of wrong numbers,
-    // and nothing that can't be.
+    // Every answer that a call can give, every switch that alone stops a ring, the edges of the sizes and of the base, words of
+    // wrong numbers, and nothing that can't be.
     assert_eq!(counts.gaps(140), Vec::<String>::new());
     for accepted in counts.calls.map(|kind| kind[0]) {
         assert!(accepted >= 11_400, "{accepted} calls of a kind accepted");
