@@ -136,8 +136,8 @@ fn unaccepted(hub: &mut Three) {
     calls::made(hub, b"V", V, 2);
 }
 
-// The region is at the lowest base: a page further is sound too, and every address below is not. Where the base's high word is not 0,
-// its low word may be anything that is a multiple of 4096.
+// The region is at the lowest base: a page further is sound too, and every address below is not. With a high word of 1 the low word
+// may be any multiple of 4096.
 fn bases(hub: &mut Three) {
     changed(hub, b"base's low word", BASE_LOW, 0);
     changed(hub, b"base's low word", BASE_LOW, 0x000FF000);
