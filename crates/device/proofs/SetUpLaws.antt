@@ -29,7 +29,7 @@ pub record Accepted (s : Settings) : Type 0 where
   pub subsystem : s .subsystem < 2 ^ 16
 
 -- the tests of the definition, as a list
-tests : Settings → List Bool
+unfoldable pub tests : Settings → List Bool
 tests s =
     leb 2 (s .peers)
     ∷ leb (s .peers) maxPeers
@@ -49,7 +49,7 @@ tests s =
     ∷ sixteenBits (s .subsystem)
     ∷ []
 
-each : (s : Settings) → accepted s ≡ true → (k : ℕ) → getD (tests s) k true ≡ true
+pub each : (s : Settings) → accepted s ≡ true → (k : ℕ) → getD (tests s) k true ≡ true
 unfolding accepted tests
 each s e k = every-true (tests s) e k
 
