@@ -1,31 +1,20 @@
 -- The lanes of an access, byte by byte, and what is written in them.
 use Prim.Native.Nat.{ℕ, _+_, _-_, _*_, _%_, _^_, _<_, _≤_}
-use mathlib.Core.Bool.{Bool, true, false, cond, _||_}
+use mathlib.Core.Bool.{Bool, true, false, cond}
 use mathlib.Core.Path.{_≡_, refl, _∙_}
 use native.Mathlib.Nat.{lt-of-lt-of-le}
 use native.Mathlib.Omega.{arith}
-use borrow.Author.Tests.{eqb-true, ne-eqb}
+use borrow.Author.Tests.{eqb-true}
 use lib.Bits.{bitAnd, and-comm, and-mask, and-zero-l}
 use lib.Dec.{eqb}
 use lib.Pow.{shl-lt, ones-lt, pow-mono}
 use Rattle.common.specs.Bytes.{byte, merge}
 use Rattle.common.specs.Tests.{below}
 use Rattle.common.proofs.ByteLaws.{merge-zero}
-use Rattle.common.proofs.TestLaws.{by-equal, below-true}
+use Rattle.common.proofs.TestLaws.{below-true}
 use Rattle.common.proofs.WordLaws.{byte-and, byte-or, byte-not, byte-mod, byte-shifted}
 use Rattle.device.specs.Configuration.{within}
 use Rattle.configuration.specs.Parts.{lanes, mergeWord}
-
--- an aligned access of a width that configuration space allows lies in one word: what callers of `read` and `write` have to show
-pub in-one-word : (at w : ℕ) → (eqb w 1 || eqb w 2 || eqb w 4) ≡ true → at % w ≡ 0 → at % 4 + w ≤ 4
-in-one-word at w e a =
-    by-equal w 1 (λ (f : w ≡ 1). omega arith)
-    (λ n1.
-    by-equal w 2 (λ (f : w ≡ 2). let b : at % 2 ≡ 0 = rw f at a in omega arith)
-    (λ n2.
-    let f : w ≡ 4 = eqb-true w 4 (rw (ne-eqb w 1 n1, ne-eqb w 2 n2) at e) in
-    let b : at % 4 ≡ 0 = rw f at a in
-    omega arith))
 
 -- which bytes of a word the lanes are, for every place and width
 table : below 4 (λ k. below 5 (λ w. below 4 (λ j. eqb (byte j (lanes k w)) (cond (within k w j) 255 0)))) ≡ true

@@ -1,7 +1,7 @@
 -- Configuration space: a read of any width is made of the reads of its bytes, a write of any width changes exactly the bits of the
 -- mask in exactly its bytes, and the masks are the rules' table. Each law is shown once over the width.
 use Prim.Native.Nat.{ℕ, zero, suc, _+_, _-_, _*_, _/_, _%_, _^_, _<_, _≤_}
-use mathlib.Core.Bool.{Bool, true, false, cond, _&&_}
+use mathlib.Core.Bool.{Bool, true, false, cond, _&&_, _||_}
 use mathlib.Core.List.{List, [], _∷_, _++_}
 use mathlib.Core.Path.{_≡_, refl, sym, ap, ap₂, subst, fun-ext, _∙_}
 use native.Mathlib.Nat.{add-zero}
@@ -13,7 +13,7 @@ use lib.Pow.{pow-add, shr-shr, mod-pow-add}
 use Rattle.common.specs.Bytes.{byte, number, setByte, merge}
 use Rattle.common.specs.Lists.{tabulate}
 use Rattle.common.proofs.ByteLaws.{byte-suc, byte-zero, byte-setByte-same, byte-setByte-other, merge-small, merge-zero, number-tabulate}
-use Rattle.common.proofs.TestLaws.{and-left, and-right}
+use Rattle.common.proofs.TestLaws.{and-left, and-right, by-equal}
 use Rattle.device.specs.declared.Peer.{Peer}
 use Rattle.device.specs.declared.Settings.{Settings}
 use Rattle.device.specs.Configuration.{Field, fieldByte, fields, within, configurationByte, configurationRead, masks, maskIn, maskAt, maskOf, withByte, writtenByte, configurationWritten}
@@ -109,6 +109,17 @@ within-false start size o h = go (within start size o) refl
     go : (t : Bool) → within start size o ≡ t → within start size o ≡ false
     go true e = absurd (h (in-range start size o e .0) (in-range start size o e .1))
     go false e = e
+
+-- an aligned access of a width that configuration space allows lies in one word
+pub in-one-word : (at w : ℕ) → (eqb w 1 || eqb w 2 || eqb w 4) ≡ true → at % w ≡ 0 → at % 4 + w ≤ 4
+in-one-word at w e a =
+    by-equal w 1 (λ (f : w ≡ 1). omega arith)
+    (λ n1.
+    by-equal w 2 (λ (f : w ≡ 2). let b : at % 2 ≡ 0 = rw f at a in omega arith)
+    (λ n2.
+    let f : w ≡ 4 = eqb-true w 4 (rw (ne-eqb w 1 n1, ne-eqb w 2 n2) at e) in
+    let b : at % 4 ≡ 0 = rw f at a in
+    omega arith))
 
 -- A statement about every offset, from the offsets of a list one by one and all others together.
 abbrev Each : (ℕ → Type 0) → List ℕ → Type 0
@@ -260,6 +271,17 @@ unfolding configurationWritten
 written-keeps s P one p at zero value h = h
 written-keeps s P one p at (suc w) value h =
     written-keeps s P one (writtenByte s p at (value % 256)) (suc at) w (value / 256) (one p at (value % 256) (omega arith) h)
+
+-- a write of one byte more is the write without it, then that byte
+pub written-last : (s : Settings) (p : Peer) (at w value : ℕ)
+    → configurationWritten s p at (suc w) value ≡ configurationWritten s (configurationWritten s p at w value) (at + w) 1 (byte w value)
+unfolding configurationWritten
+written-last s p at zero value =
+    let low : byte 0 value % 256 ≡ value % 256 = omega arith in
+    rw (add-zero at, low)
+written-last s p at (suc w) value =
+    let next : at + suc w ≡ suc at + w = omega arith in
+    rw (next, byte-suc w value) (written-last s (writtenByte s p at (value % 256)) (suc at) w (value / 256))
 
 -- what a write leaves of a number f, where a write of one byte merges it under m if it is at o and else leaves it
 module _ (s : Settings) (f : Peer → ℕ) (o m : ℕ)

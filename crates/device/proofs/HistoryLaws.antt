@@ -82,7 +82,7 @@ stored-sound s who slot Register.state x c e =
     (record { command = f .command; bar0 = f .bar0; bar1 = f .bar1; privileged = f .privileged; message = f .message; interrupt = f .interrupt }))
 stored-sound s who slot Register.none x c e = e
 
-effect-sound : (s : Settings) (who : ℕ) (slot : Slot) (region : List ℕ) (a : Act)
+pub effect-sound : (s : Settings) (who : ℕ) (slot : Slot) (region : List ℕ) (a : Act)
     → missing (eqb (slot .peer .connected) 1) (accessOf a) ≡ false → Sound s who slot
     → Leaves (Sound s who) slot (effect s who slot region a .operations)
 unfolding effect accessOf missing

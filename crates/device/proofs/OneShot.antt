@@ -62,7 +62,7 @@ control-bit s w f b =
     omega arith)
 
 -- a connected peer's id has a slot
-has-slot : (w : World) (b : ℕ) → isConnected w b ≡ true → b < length (w .hub .slots)
+pub has-slot : (w : World) (b : ℕ) → isConnected w b ≡ true → b < length (w .hub .slots)
 unfolding isConnected zeroSlot
 has-slot w b c = by-slot w b (λ l. l) (λ (none : slotAt (w .hub) b ≡ zeroSlot). never (rw none at c))
 

@@ -47,7 +47,7 @@ use Rattle.device.proofs.SoundLaws.{Used, used}
 
 -- One call more.
 
-after-one : (w : World) (cs : List Call) (c : Call) → after w (cs ++ (c ∷ [])) ≡ step (after w cs) c .world
+pub after-one : (w : World) (cs : List Call) (c : Call) → after w (cs ++ (c ∷ [])) ≡ step (after w cs) c .world
 unfolding after
 after-one w [] c = refl
 after-one w (d ∷ cs) c = after-one (step w d .world) cs c

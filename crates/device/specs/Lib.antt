@@ -17,3 +17,4 @@ pub mod History
 pub mod Window
 pub mod OneShot
 pub mod Reached
+pub mod Split

@@ -174,6 +174,12 @@ fn shared_offset(owner: u64, k: u64) -> u64 {
     start + 8 * k
 }
 
+/// Words of every kind in turn, and of each another place.
+fn configuration_read(id: u64, k: u64, width: u64) -> Call {
+    let word = one_of(&[0x00, 0x04, 0x08, 0x10, 0x14, 0x2c, 0x40, 0x44, 0x50, 0x58, 0x60, 0x64], k);
+    Call::ConfigurationRead { id, offset: word + width * k % 4, width }
+}
+
 fn configuration_write(id: u64, k: u64) -> Call {
     let (offset, width, value) = match k % 4 {
         0 => (0x04, 2, 0x0006),
@@ -207,9 +213,12 @@ fn accepted(size: Size) -> Vec<Case> {
         case("connect", &|id, _| Call::Connect { id }).after(|k| Call::Disconnect { id: size.peer(k) }).once(),
         case("disconnect, State 0", &|id, _| Call::Disconnect { id }).once(),
         case("reset, State 0", &|id, _| Call::Reset { id }),
-        case("configuration read, 4 bytes", &|id, k| {
-            let offset = one_of(&[0x00, 0x04, 0x08, 0x10, 0x14, 0x2c, 0x40, 0x44, 0x50, 0x58, 0x60, 0x64], k);
-            Call::ConfigurationRead { id, offset, width: 4 }
+        case("configuration read, 1 byte", &|id, k| configuration_read(id, k, 1)),
+        case("configuration read, 2 bytes", &|id, k| configuration_read(id, k, 2)),
+        case("configuration read, 4 bytes", &|id, k| configuration_read(id, k, 4)),
+        case("configuration write, 1 byte", &|id, k| {
+            let offset = one_of(&[0x04, 0x05, 0x11, 0x13, 0x16, 0x17, 0x63], k);
+            Call::ConfigurationWrite { id, offset, width: 1, value: 0x86 }
         }),
         case("configuration write, 2 or 4 bytes", &configuration_write),
         case("register read", &|id, k| {

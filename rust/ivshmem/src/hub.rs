@@ -100,7 +100,7 @@ impl<'a> Hub<'a> {
         filled(counted, table)
     }
 
-    /// Reads 1, 2 or 4 bytes of the peer's configuration space.
+    /// Reads 1, 2 or 4 bytes of the peer's configuration space. An accepted read is its reads of one byte, little-endian.
     ///
     /// # Errors
     /// [`Refusal::UnsoundHub`], [`Refusal::NoSuchPeer`], [`Refusal::NotConnected`], [`Refusal::BadWidth`],
@@ -110,6 +110,7 @@ impl<'a> Hub<'a> {
     }
 
     /// Writes the low 1, 2 or 4 bytes of `value` to the peer's configuration space; bits that can't be written stay.
+    /// An accepted write leaves what its writes of one byte leave, lowest first.
     ///
     /// # Errors
     /// As for [`configuration_read`](Hub::configuration_read).

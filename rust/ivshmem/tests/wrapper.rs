@@ -192,6 +192,37 @@ fn configuration() {
     assert_eq!(host.hub.configuration_write(PeerId(3), 0x10, 4, 0), Err(Refusal::NoSuchPeer));
 }
 
+/// An access is the accesses of one byte at its offsets, lowest first, refusals too; but not where 6 or 7 refuses it.
+#[test]
+fn configuration_split() {
+    let (ones, mixed, zeros) = (u32::MAX, 0x8142_e35c, 0);
+    for (peer, before, value) in
+        [(ONE, zeros, ones), (ONE, ones, zeros), (ONE, ones, mixed), (ONE, mixed, !mixed), (PeerId(2), zeros, ones)]
+    {
+        let mut words = ANY;
+        let mut host = Host::new(&mut words);
+        for offset in (0..CONFIGURATION_BYTES).step_by(4) {
+            host.hub.configuration_write(ONE, offset, 4, before).unwrap();
+        }
+        for (offset, width) in (0..CONFIGURATION_BYTES + 8).flat_map(|offset| [1, 2, 4].map(|width| (offset, width))) {
+            let (mut whole, mut split) = (host.hub.words().to_vec(), host.hub.words().to_vec());
+            let (mut whole, mut split) = (Hub::from_words(&mut whole), Hub::from_words(&mut split));
+            let bytes = (0..width).map(|j| split.configuration_read(peer, offset + j, 1)).collect::<Result<Vec<_>, _>>();
+            let read = whole.configuration_read(peer, offset, width);
+            let writes = value.to_le_bytes().into_iter().take(width as usize).zip(offset..);
+            let written = writes.map(|(byte, at)| split.configuration_write(peer, at, 1, byte.into())).collect();
+            if peer == ONE && offset % width != 0 {
+                assert_eq!(read, Err(Refusal::Misaligned));
+                assert_eq!(whole.configuration_write(peer, offset, width, value), Err(Refusal::Misaligned));
+            } else {
+                assert_eq!(read, bytes.map(|b| b.iter().rev().fold(0, |high, byte| high << 8 | byte)), "{offset:x} {width}");
+                assert_eq!(whole.configuration_write(peer, offset, width, value), written);
+                assert_eq!(whole, split, "{offset:x} {width} {value:x}");
+            }
+        }
+    }
+}
+
 #[test]
 fn registers_and_entries() {
     let mut words = ANY;

@@ -181,6 +181,50 @@ fn overwrites_the_capability() {
 }
 
 #[test]
+fn reads_one_byte_too_many() {
+    is_found("a configuration read takes the byte behind too", 3, || {
+        |model: &mut Model, call: &Call, mut lent: Lent<'_>| {
+            let mut answer = model.perform(call, again(&mut lent));
+            if let (&Call::ConfigurationRead { id, offset, width: width @ (1 | 2) }, 0) = (call, answer.number) {
+                let behind = Call::ConfigurationRead { id, offset: offset + width, width: 1 };
+                answer.value |= model.perform(&behind, lent).value << (8 * width);
+            }
+            answer
+        }
+    });
+}
+
+/// The low bytes of a value in the other order, as many as an access has.
+fn reversed(value: u32, width: u64) -> u32 {
+    match width {
+        2 | 4 => value.swap_bytes() >> (32 - 8 * width),
+        _ => value,
+    }
+}
+
+#[test]
+fn takes_bytes_in_another_order() {
+    is_found("a configuration read gives its bytes in the other order", 3, || {
+        |model: &mut Model, call: &Call, lent: Lent<'_>| {
+            let mut answer = model.perform(call, lent);
+            if let Call::ConfigurationRead { width, .. } = call {
+                answer.value = reversed(answer.value, *width);
+            }
+            answer
+        }
+    });
+    is_found("a configuration write takes its bytes in the other order", 3, || {
+        |model: &mut Model, call: &Call, lent: Lent<'_>| {
+            let mut other = call.clone();
+            if let Call::ConfigurationWrite { width, value, .. } = &mut other {
+                *value = reversed(*value, *width);
+            }
+            model.perform(&other, lent)
+        }
+    });
+}
+
+#[test]
 fn touches_a_later_record() {
     is_found("a record behind the count is written", 9, || {
         |model: &mut Model, call: &Call, mut lent: Lent<'_>| {

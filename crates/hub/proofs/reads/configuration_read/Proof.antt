@@ -5,8 +5,8 @@ use borrow.Author.Needs.{needs}
 use Rattle.device.specs.Call.{Act}
 use Rattle.device.specs.Effect.{effect}
 use Rattle.device.specs.Refusal.{lentTo, accessOf}
+use Rattle.device.proofs.ConfigurationLaws.{in-one-word}
 use Rattle.words.specs.Layout.{hubOf}
-use Rattle.configuration.proofs.LaneLaws.{in-one-word}
 use Rattle.hub.proofs.RefusalLaws.{configuration-refusal, any-width}
 use Rattle.hub.proofs.ReplyLaws.{reply-refused, reply-accepted}
 use Rattle.hub.proofs.reads.configuration_read.Statement.{statement}

@@ -6,8 +6,8 @@ use Rattle.device.specs.Call.{Act}
 use Rattle.device.specs.Effect.{effect}
 use Rattle.device.specs.Refusal.{lentTo, accessOf}
 use Rattle.device.specs.Step.{run, runAll}
+use Rattle.device.proofs.ConfigurationLaws.{in-one-word}
 use Rattle.words.specs.Layout.{hubOf}
-use Rattle.configuration.proofs.LaneLaws.{in-one-word}
 use Rattle.hub.proofs.RefusalLaws.{configuration-refusal, any-width}
 use Rattle.hub.proofs.ReplyLaws.{changes-refused, changes-accepted}
 use Rattle.hub.proofs.writes.configuration_write.Statement.{statement}

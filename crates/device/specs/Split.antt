@@ -1,0 +1,59 @@
+-- C-14 over whole calls: an access to configuration space is the accesses of one byte at its offsets, from the lowest on. A host may
+-- split one in any world. Only an access that is refused with 6 or 7 is not its bytes: its width is not allowed or its offset not a
+-- multiple of it, and each byte alone may be accepted.
+use Prim.Native.Nat.{ℕ, suc, _+_, _<_}
+use mathlib.Core.List.{[]}
+use mathlib.Core.Path.{_≡_}
+use Rattle.common.specs.Bytes.{byte, number}
+use Rattle.common.specs.Lists.{tabulate}
+use Rattle.device.specs.Call.{Call, call}
+use Rattle.device.specs.Call.Act.{configurationRead, configurationWrite}
+use Rattle.device.specs.History.{after}
+use Rattle.device.specs.Sections.{noSection}
+use Rattle.device.specs.Step.{Outcome, step}
+use Rattle.device.specs.World.{World}
+
+abbrev pub readCall : (who at width : ℕ) → Call
+readCall who at width = call who (configurationRead at width)
+
+abbrev pub writeCall : (who at width value : ℕ) → Call
+writeCall who at width value = call who (configurationWrite at width value)
+
+-- the numbers of the accesses that may be split: 0, accepted, and the other refusals
+abbrev pub Splittable : ℕ → Type 0
+Splittable number = (number ≡ 6 → ⊥) × (number ≡ 7 → ⊥)
+
+-- what an access gives: a number, a value and the world afterwards, and no delivery
+abbrev pub answers : (number value : ℕ) → World → Outcome
+answers number value w =
+    record { number = number; value = value; answer = noSection; loaded = []; deliveries = []; world = w }
+
+-- A read, with the outcome o: each read of one byte has its number and gives its byte, and its value is theirs, little-endian.
+pub record ReadSplit (w : World) (who at width : ℕ) (o : Outcome) : Type 0 where
+  pub each : (j : ℕ) → j < width → step w (readCall who (at + j) 1) ≡ answers (o .number) (byte j (o .value)) w
+  pub whole : o ≡ answers (o .number) (number (tabulate width (λ j. step w (readCall who (at + j) 1) .value))) w
+
+abbrev pub ReadSplits : Type 0
+ReadSplits =
+    (w : World) (who at width : ℕ)
+    → Splittable (step w (readCall who at width) .number)
+    → ReadSplit w who at width (step w (readCall who at width))
+
+-- the write of byte j of a value, and the world that the first n of these writes leave
+abbrev pub byteWrite : (who at value j : ℕ) → Call
+byteWrite who at value j = writeCall who (at + j) 1 (byte j value)
+
+abbrev pub afterBytes : World → (who at value n : ℕ) → World
+afterBytes w who at value n = after w (tabulate n (λ j. byteWrite who at value j))
+
+-- A write, with the outcome o: each write of one byte has its number, and together they leave the world that it leaves.
+pub record WriteSplit (w : World) (who at width value : ℕ) (o : Outcome) : Type 0 where
+  pub each : (j : ℕ) → j < width
+      → step (afterBytes w who at value j) (byteWrite who at value j) ≡ answers (o .number) 0 (afterBytes w who at value (suc j))
+  pub whole : o ≡ answers (o .number) 0 (afterBytes w who at value width)
+
+abbrev pub WriteSplits : Type 0
+WriteSplits =
+    (w : World) (who at width value : ℕ)
+    → Splittable (step w (writeCall who at width value) .number)
+    → WriteSplit w who at width value (step w (writeCall who at width value))
