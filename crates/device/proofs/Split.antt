@@ -1,10 +1,10 @@
--- An access to configuration space is the accesses of its bytes: they have its number, a read gives their values and a write leaves
--- what they leave one after the other. Shown once over the width.
+-- An access to configuration space that is not refused with 6 or 7 is the accesses of its bytes: they have its number, a read gives
+-- their values and a write leaves what they leave one after the other. Shown once over the width.
 use Prim.Native.Nat.{ℕ, zero, suc, _+_, _%_, _<_, _≤_}
 use mathlib.Core.Bool.{Bool, true, false, not, _||_}
 use mathlib.Core.List.{List, [], _∷_}
 use mathlib.Core.Path.{_≡_, refl, sym, ap, subst, _∙_}
-use native.Mathlib.Nat.{add-zero, zero-div}
+use native.Mathlib.Nat.{zero-div}
 use native.Mathlib.Omega.{arith}
 use borrow.Author.Tests.{eqb-true, eq-eqb, leb-false, ltb-true, lt-ltb, not-false}
 use lib.Dec.{eqb, leb, ltb}
@@ -25,9 +25,9 @@ use Rattle.device.specs.History.{after}
 use Rattle.device.specs.Refusal.{Access, lentTo, accessOf, wrongRegion, shortTable, missing, present, wrongWidth, misaligned, outside, forbidden, isConnected, refusal}
 use Rattle.device.specs.SetUp.{accepted}
 use Rattle.device.specs.Sound.{slotSound, sound}
-use Rattle.device.specs.Split.{readCall, writeCall, byteWrite, afterBytes, answers, Splittable, ReadSplit, ReadSplits, WriteSplit, WriteSplits}
+use Rattle.device.specs.Split.{readCall, writeCall, byteWrite, afterBytes, gives, Splittable, ReadSplit, ReadSplits, WriteSplit, WriteSplits}
 use Rattle.device.specs.Step.{Outcome, run, runAll, stepBy, step}
-use Rattle.device.specs.World.{Hub, Slot, World, world, zeroSlot, slotAt, withSlot, withPeer}
+use Rattle.device.specs.World.{Slot, World, world, zeroSlot, slotAt, withSlot, withPeer}
 use Rattle.device.proofs.ConfigurationLaws.{in-one-word, read-by-bytes, read-within, written-last}
 use Rattle.device.proofs.FixedLaws.{written-connected}
 use Rattle.device.proofs.HistoryLaws.{effect-sound}
@@ -46,20 +46,20 @@ ownRows s at width =
     ∷ []
 
 -- all that can fail; checks 10, 3 and 4 do not ask for offset and width
-abbrev numberOf : (unsound unknown absent : Bool) → Settings → (at width : ℕ) → ℕ
-numberOf unsound unknown absent s at width = first (row 10 unsound ∷ row 3 unknown ∷ row 4 absent ∷ ownRows s at width)
+abbrev refusalOf : (unsound unknown absent : Bool) → Settings → (at width : ℕ) → ℕ
+refusalOf unsound unknown absent s at width = first (row 10 unsound ∷ row 3 unknown ∷ row 4 absent ∷ ownRows s at width)
 
-abbrev accessNumber : World → (who at width : ℕ) → ℕ
-accessNumber w who at width =
-    numberOf (not (sound (w .hub))) (leb (w .hub .settings .peers) who) (not (isConnected w who)) (w .hub .settings) at width
+abbrev accessRefusal : World → (who at width : ℕ) → ℕ
+accessRefusal w who at width =
+    refusalOf (not (sound (w .hub))) (leb (w .hub .settings .peers) who) (not (isConnected w who)) (w .hub .settings) at width
 
-read-number : (w : World) (who at width : ℕ) → refusal w (readCall who at width) ≡ accessNumber w who at width
+read-refusal : (w : World) (who at width : ℕ) → refusal w (readCall who at width) ≡ accessRefusal w who at width
 unfolding refusal first lentTo accessOf wrongRegion shortTable missing present forbidden
-read-number w who at width = refl
+read-refusal w who at width = refl
 
-write-number : (w : World) (who at width value : ℕ) → refusal w (writeCall who at width value) ≡ accessNumber w who at width
+write-refusal : (w : World) (who at width value : ℕ) → refusal w (writeCall who at width value) ≡ accessRefusal w who at width
 unfolding refusal first lentTo accessOf wrongRegion shortTable missing present forbidden
-write-number w who at width value = refl
+write-refusal w who at width value = refl
 
 -- a space that ends where a word does: an access that lies in a word is outside with each of its bytes
 same-end : (at width j size : ℕ) → at % 4 + width ≤ 4 → j < width → size % 4 ≡ 0 → ltb size (at + j + 1) ≡ ltb size (at + width)
@@ -85,13 +85,13 @@ byte-rows s at width j h ok = go (eqb width 1 || eqb width 2 || eqb width 4) ref
     go true e true f =
         rw (e, f, eq-eqb ((at + j) % 1) 0 (omega arith), byte-outside s at width j (in-one-word at width e (eqb-true (at % width) 0 f)) h)
 
-byte-number : (unsound unknown absent : Bool) (s : Settings) (at width j : ℕ) → j < width → Splittable (numberOf unsound unknown absent s at width)
-    → numberOf unsound unknown absent s (at + j) 1 ≡ numberOf unsound unknown absent s at width
+byte-refusal : (unsound unknown absent : Bool) (s : Settings) (at width j : ℕ) → j < width → Splittable (refusalOf unsound unknown absent s at width)
+    → refusalOf unsound unknown absent s (at + j) 1 ≡ refusalOf unsound unknown absent s at width
 unfolding first
-byte-number true unknown absent s at width j h ok = refl
-byte-number false true absent s at width j h ok = refl
-byte-number false false true s at width j h ok = refl
-byte-number false false false s at width j h ok = byte-rows s at width j h ok
+byte-refusal true unknown absent s at width j h ok = refl
+byte-refusal false true absent s at width j h ok = refl
+byte-refusal false false true s at width j h ok = refl
+byte-refusal false false false s at width j h ok = byte-rows s at width j h ok
 
 -- by the number of an access: the first where it is accepted, else the second
 abbrev ifAccepted {ℓ} : {A : Type ℓ} → (number : ℕ) → A → A → A
@@ -101,7 +101,7 @@ ifAccepted (suc n) x y = y
 -- Reads.
 
 read-by : (n : ℕ) (w : World) (who at width : ℕ)
-    → stepBy n w (readCall who at width) ≡ answers n (ifAccepted n (configurationRead (w .hub .settings) (slotAt (w .hub) who .peer) at width) 0) w
+    → stepBy n w (readCall who at width) ≡ gives n (ifAccepted n (configurationRead (w .hub .settings) (slotAt (w .hub) who .peer) at width) 0) w
 unfolding stepBy effect runAll
 read-by zero w who at width = refl
 read-by (suc n) w who at width = refl
@@ -112,25 +112,25 @@ number-zeros zero = refl
 number-zeros (suc n) = number-tabulate n (λ j. 0) ∙ rw (number-zeros n)
 
 module _ (w : World) (who at width : ℕ) (ok : Splittable (step w (readCall who at width) .number)) where
-  abbrev numberOfRead : ℕ
-  numberOfRead = refusal w (readCall who at width)
+  abbrev readRefusal : ℕ
+  readRefusal = refusal w (readCall who at width)
 
   abbrev read : (at width : ℕ) → ℕ
   read at width = configurationRead (w .hub .settings) (slotAt (w .hub) who .peer) at width
 
-  read-outcome : step w (readCall who at width) ≡ answers numberOfRead (ifAccepted numberOfRead (read at width) 0) w
+  read-outcome : step w (readCall who at width) ≡ gives readRefusal (ifAccepted readRefusal (read at width) 0) w
   unfolding step
-  read-outcome = read-by numberOfRead w who at width
+  read-outcome = read-by readRefusal w who at width
 
-  byte-outcome : (j : ℕ) → j < width → step w (readCall who (at + j) 1) ≡ answers numberOfRead (ifAccepted numberOfRead (read (at + j) 1) 0) w
+  byte-outcome : (j : ℕ) → j < width → step w (readCall who (at + j) 1) ≡ gives readRefusal (ifAccepted readRefusal (read (at + j) 1) 0) w
   unfolding step
   byte-outcome j h =
-      let split : Splittable numberOfRead = subst Splittable (step-number w (readCall who at width)) ok in
-      let same : refusal w (readCall who (at + j) 1) ≡ numberOfRead =
-      read-number w who (at + j) 1
-      ∙ byte-number _ _ _ _ at width j h (subst Splittable (read-number w who at width) split)
-      ∙ sym (read-number w who at width) in
-      ap (λ (m : ℕ). stepBy m w (readCall who (at + j) 1)) same ∙ read-by numberOfRead w who (at + j) 1
+      let may-split : Splittable readRefusal = subst Splittable (step-number w (readCall who at width)) ok in
+      let same : refusal w (readCall who (at + j) 1) ≡ readRefusal =
+      read-refusal w who (at + j) 1
+      ∙ byte-refusal _ _ _ _ at width j h (subst Splittable (read-refusal w who at width) may-split)
+      ∙ sym (read-refusal w who at width) in
+      ap (λ (m : ℕ). stepBy m w (readCall who (at + j) 1)) same ∙ read-by readRefusal w who (at + j) 1
 
   byte-value : (m j : ℕ) → j < width → ifAccepted m (read (at + j) 1) 0 ≡ byte j (ifAccepted m (read at width) 0)
   byte-value zero j h = read-within (w .hub .settings) (slotAt (w .hub) who .peer) at j 1 width (omega arith)
@@ -140,51 +140,51 @@ module _ (w : World) (who at width : ℕ) (ok : Splittable (step w (readCall who
   all-values zero = read-by-bytes (w .hub .settings) (slotAt (w .hub) who .peer) at width
   all-values (suc m) = sym (number-zeros width)
 
-  read-split : ReadSplit w who at width (step w (readCall who at width))
-  read-split =
+  read-is-split : ReadSplit w who at width (step w (readCall who at width))
+  read-is-split =
       rw read-outcome
       (record {
-        each = λ j h. byte-outcome j h ∙ ap (λ (v : ℕ). answers numberOfRead v w) (byte-value numberOfRead j h);
+        each = λ j h. byte-outcome j h ∙ ap (λ (v : ℕ). gives readRefusal v w) (byte-value readRefusal j h);
         whole =
-            ap (λ (v : ℕ). answers numberOfRead v w)
-            (all-values numberOfRead
+            ap (λ (v : ℕ). gives readRefusal v w)
+            (all-values readRefusal
             ∙ ap (λ (l : List ℕ). number l) (tabulate-ext width _ _ (λ j h. sym (ap (λ (o : Outcome). o .value) (byte-outcome j h)))));
       })
 
 pub read-splits : ReadSplits
-read-splits = read-split
+read-splits = read-is-split
 
 -- Writes.
 
 -- the world with a peer's registers replaced
-abbrev wrote : World → ℕ → Peer → World
-wrote w who p = world (withSlot (w .hub) who (withPeer (slotAt (w .hub) who) p)) (w .region)
+abbrev withRegisters : World → ℕ → Peer → World
+withRegisters w who p = world (withSlot (w .hub) who (withPeer (slotAt (w .hub) who) p)) (w .region)
 
 write-by : (n : ℕ) (w : World) (who at width value : ℕ)
     → stepBy n w (writeCall who at width value)
-    ≡ answers n 0 (ifAccepted n (wrote w who (configurationWritten (w .hub .settings) (slotAt (w .hub) who .peer) at width value)) w)
+    ≡ gives n 0 (ifAccepted n (withRegisters w who (configurationWritten (w .hub .settings) (slotAt (w .hub) who .peer) at width value)) w)
 unfolding stepBy effect runAll run
 write-by zero w who at width value = refl
 write-by (suc n) w who at width value = refl
 
 -- what checks 10, 3 and 4 ask for; a write keeps it
-record Ready (w : World) (who : ℕ) : Type 0 where
+record Caller (w : World) (who : ℕ) : Type 0 where
   sound-hub : sound (w .hub) ≡ true
   known : leb (w .hub .settings .peers) who ≡ false
   connected : isConnected w who ≡ true
 
-ready-number : (w : World) (who at width value : ℕ) → Ready w who → refusal w (writeCall who at width value) ≡ first (ownRows (w .hub .settings) at width)
+caller-refusal : (w : World) (who at width value : ℕ) → Caller w who → refusal w (writeCall who at width value) ≡ first (ownRows (w .hub .settings) at width)
 unfolding first
-ready-number w who at width value r = write-number w who at width value ∙ rw (r .sound-hub, r .known, r .connected)
+caller-refusal w who at width value r = write-refusal w who at width value ∙ rw (r .sound-hub, r .known, r .connected)
 
-accepted-ready : (w : World) (who at width value : ℕ) → refusal w (writeCall who at width value) ≡ 0 → Ready w who
-accepted-ready w who at width value e =
-    let r10 = first-zero 9 _ _ (sym (write-number w who at width value) ∙ e) in
+accepted-caller : (w : World) (who at width value : ℕ) → refusal w (writeCall who at width value) ≡ 0 → Caller w who
+accepted-caller w who at width value e =
+    let r10 = first-zero 9 _ _ (sym (write-refusal w who at width value) ∙ e) in
     let r3 = first-zero 2 _ _ (r10 .1) in
     let r4 = first-zero 3 _ _ (r3 .1) in
     record { sound-hub = not-false _ (r10 .0); known = r3 .0; connected = not-false _ (r4 .0) }
 
-module _ (w : World) (who at width value : ℕ) (r : Ready w who) where
+module _ (w : World) (who at width value : ℕ) (r : Caller w who) where
   abbrev s : Settings
   s = w .hub .settings
 
@@ -200,9 +200,9 @@ module _ (w : World) (who at width value : ℕ) (r : Ready w who) where
       effect-sound s who slot (w .region) (configurationWrite at width value) (rw (r .connected))
       (below-true (s .peers) _ (and-right (accepted s) _ (r .sound-hub)) who (leb-false _ _ (r .known)))
 
-  wrote-ready : Ready (wrote w who (new .peer)) who
+  caller-stays : Caller (withRegisters w who (new .peer)) who
   unfolding sound isConnected
-  wrote-ready =
+  caller-stays =
       record {
         sound-hub =
             rw (and-left (accepted s) _ (r .sound-hub))
@@ -216,75 +216,75 @@ module _ (w : World) (who at width value : ℕ) (r : Ready w who) where
             (r .connected);
       }
 
-wrote-again : (w : World) (who : ℕ) (p q : Peer) → who < length (w .hub .slots) → wrote (wrote w who p) who q ≡ wrote w who q
-wrote-again w who p q h =
+registers-twice : (w : World) (who : ℕ) (p q : Peer) → who < length (w .hub .slots) → withRegisters (withRegisters w who p) who q ≡ withRegisters w who q
+registers-twice w who p q h =
     rw (getD-set-same (w .hub .slots) who (withPeer (slotAt (w .hub) who) p) zeroSlot h, set-set (w .hub .slots) who)
 
-wrote-same : (w : World) (who : ℕ) → wrote w who (slotAt (w .hub) who .peer) ≡ w
-wrote-same w who = λ i. world (record { settings = w .hub .settings; slots = set-getD (w .hub .slots) who zeroSlot i }) (w .region)
+registers-kept : (w : World) (who : ℕ) → withRegisters w who (slotAt (w .hub) who .peer) ≡ w
+registers-kept w who = λ i. world (record { settings = w .hub .settings; slots = set-getD (w .hub .slots) who zeroSlot i }) (w .region)
 
 module _ (w : World) (who at width value : ℕ) (ok : Splittable (step w (writeCall who at width value) .number)) where
-  abbrev numberOfWrite : ℕ
-  numberOfWrite = refusal w (writeCall who at width value)
+  abbrev writeRefusal : ℕ
+  writeRefusal = refusal w (writeCall who at width value)
 
   abbrev written : ℕ → Peer
   written k = configurationWritten (w .hub .settings) (slotAt (w .hub) who .peer) at k value
 
   -- what the first k writes leave
   abbrev left : (number k : ℕ) → World
-  left m k = ifAccepted m (wrote w who (written k)) w
+  left m k = ifAccepted m (withRegisters w who (written k)) w
 
-  split : Splittable numberOfWrite
-  split = subst Splittable (step-number w (writeCall who at width value)) ok
+  may-split : Splittable writeRefusal
+  may-split = subst Splittable (step-number w (writeCall who at width value)) ok
 
-  one-write : (m : ℕ) → numberOfWrite ≡ m → (k : ℕ) → k < width → step (left m k) (byteWrite who at value k) ≡ answers m 0 (left m (suc k))
+  one-write : (m : ℕ) → writeRefusal ≡ m → (k : ℕ) → k < width → step (left m k) (byteWrite who at value k) ≡ gives m 0 (left m (suc k))
   unfolding step
   one-write zero e k h =
-      let r : Ready w who = accepted-ready w who at width value e in
-      let u : World = wrote w who (written k) in
-      let rows : first (ownRows (w .hub .settings) at width) ≡ 0 = sym (ready-number w who at width value r) ∙ e in
+      let r : Caller w who = accepted-caller w who at width value e in
+      let u : World = withRegisters w who (written k) in
+      let rows : first (ownRows (w .hub .settings) at width) ≡ 0 = sym (caller-refusal w who at width value r) ∙ e in
       let number : refusal u (byteWrite who at value k) ≡ 0 =
-      ready-number u who (at + k) 1 (byte k value) (wrote-ready w who at k value r)
-      ∙ byte-rows (w .hub .settings) at width k h (subst Splittable (ready-number w who at width value r) split)
+      caller-refusal u who (at + k) 1 (byte k value) (caller-stays w who at k value r)
+      ∙ byte-rows (w .hub .settings) at width k h (subst Splittable (caller-refusal w who at width value r) may-split)
       ∙ rows in
       let near : who < length (w .hub .slots) = has-slot w who (r .connected) in
       let here : slotAt (u .hub) who .peer ≡ written k = ap (λ (x : Slot). x .peer) (getD-set-same (w .hub .slots) who _ zeroSlot near) in
       ap (λ (m : ℕ). stepBy m u (byteWrite who at value k)) number
       ∙ write-by 0 u who (at + k) 1 (byte k value)
-      ∙ ap (λ (x : World). answers 0 0 x)
-      (rw (here, wrote-again w who (written k) (configurationWritten (w .hub .settings) (written k) (at + k) 1 (byte k value)) near, written-last (w .hub .settings) (slotAt (w .hub) who .peer) at k value))
+      ∙ ap (λ (x : World). gives 0 0 x)
+      (rw (here, registers-twice w who (written k) (configurationWritten (w .hub .settings) (written k) (at + k) 1 (byte k value)) near, written-last (w .hub .settings) (slotAt (w .hub) who .peer) at k value))
   one-write (suc m) e k h =
       let number : refusal w (byteWrite who at value k) ≡ suc m =
-      write-number w who (at + k) 1 (byte k value)
-      ∙ byte-number _ _ _ _ at width k h (subst Splittable (write-number w who at width value) split)
-      ∙ sym (write-number w who at width value)
+      write-refusal w who (at + k) 1 (byte k value)
+      ∙ byte-refusal _ _ _ _ at width k h (subst Splittable (write-refusal w who at width value) may-split)
+      ∙ sym (write-refusal w who at width value)
       ∙ e in
       ap (λ (m : ℕ). stepBy m w (byteWrite who at value k)) number ∙ write-by (suc m) w who (at + k) 1 (byte k value)
 
   left-none : (m : ℕ) → w ≡ left m 0
   unfolding configurationWritten
-  left-none zero = sym (wrote-same w who)
+  left-none zero = sym (registers-kept w who)
   left-none (suc m) = refl
 
-  all-left : (k : ℕ) → k ≤ width → afterBytes w who at value k ≡ left numberOfWrite k
+  all-left : (k : ℕ) → k ≤ width → afterBytes w who at value k ≡ left writeRefusal k
   unfolding after tabulate
-  all-left zero h = left-none numberOfWrite
+  all-left zero h = left-none writeRefusal
   all-left (suc k) h =
       after-one w (tabulate k (λ j. byteWrite who at value j)) (byteWrite who at value k)
       ∙ ap (λ (u : World). step u (byteWrite who at value k) .world) (all-left k (omega arith))
-      ∙ ap (λ (o : Outcome). o .world) (one-write numberOfWrite refl k h)
+      ∙ ap (λ (o : Outcome). o .world) (one-write writeRefusal refl k h)
 
-  write-outcome : step w (writeCall who at width value) ≡ answers numberOfWrite 0 (left numberOfWrite width)
+  write-outcome : step w (writeCall who at width value) ≡ gives writeRefusal 0 (left writeRefusal width)
   unfolding step
-  write-outcome = write-by numberOfWrite w who at width value
+  write-outcome = write-by writeRefusal w who at width value
 
-  write-split : WriteSplit w who at width value (step w (writeCall who at width value))
-  write-split =
+  write-is-split : WriteSplit w who at width value (step w (writeCall who at width value))
+  write-is-split =
       rw write-outcome
       (record {
-        each = λ j h. rw (all-left j (omega arith), all-left (suc j) (omega arith)) (one-write numberOfWrite refl j h);
+        each = λ j h. rw (all-left j (omega arith), all-left (suc j) (omega arith)) (one-write writeRefusal refl j h);
         whole = rw (all-left width (omega arith));
       })
 
 pub write-splits : WriteSplits
-write-splits = write-split
+write-splits = write-is-split

@@ -24,14 +24,14 @@ abbrev pub Splittable : ℕ → Type 0
 Splittable number = (number ≡ 6 → ⊥) × (number ≡ 7 → ⊥)
 
 -- what an access gives: a number, a value and the world afterwards, and no delivery
-abbrev pub answers : (number value : ℕ) → World → Outcome
-answers number value w =
+abbrev pub gives : (number value : ℕ) → World → Outcome
+gives number value w =
     record { number = number; value = value; answer = noSection; loaded = []; deliveries = []; world = w }
 
 -- A read, with the outcome o: each read of one byte has its number and gives its byte, and its value is theirs, little-endian.
 pub record ReadSplit (w : World) (who at width : ℕ) (o : Outcome) : Type 0 where
-  pub each : (j : ℕ) → j < width → step w (readCall who (at + j) 1) ≡ answers (o .number) (byte j (o .value)) w
-  pub whole : o ≡ answers (o .number) (number (tabulate width (λ j. step w (readCall who (at + j) 1) .value))) w
+  pub each : (j : ℕ) → j < width → step w (readCall who (at + j) 1) ≡ gives (o .number) (byte j (o .value)) w
+  pub whole : o ≡ gives (o .number) (number (tabulate width (λ j. step w (readCall who (at + j) 1) .value))) w
 
 abbrev pub ReadSplits : Type 0
 ReadSplits =
@@ -49,8 +49,8 @@ afterBytes w who at value n = after w (tabulate n (λ j. byteWrite who at value 
 -- A write, with the outcome o: each write of one byte has its number, and together they leave the world that it leaves.
 pub record WriteSplit (w : World) (who at width value : ℕ) (o : Outcome) : Type 0 where
   pub each : (j : ℕ) → j < width
-      → step (afterBytes w who at value j) (byteWrite who at value j) ≡ answers (o .number) 0 (afterBytes w who at value (suc j))
-  pub whole : o ≡ answers (o .number) 0 (afterBytes w who at value width)
+      → step (afterBytes w who at value j) (byteWrite who at value j) ≡ gives (o .number) 0 (afterBytes w who at value (suc j))
+  pub whole : o ≡ gives (o .number) 0 (afterBytes w who at value width)
 
 abbrev pub WriteSplits : Type 0
 WriteSplits =

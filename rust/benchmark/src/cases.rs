@@ -174,7 +174,7 @@ fn shared_offset(owner: u64, k: u64) -> u64 {
     start + 8 * k
 }
 
-/// Words of every kind in turn, and of each another place.
+/// At the places of a word in turn, in words with a rule.
 fn configuration_read(id: u64, k: u64, width: u64) -> Call {
     let word = one_of(&[0x00, 0x04, 0x08, 0x10, 0x14, 0x2c, 0x40, 0x44, 0x50, 0x58, 0x60, 0x64], k);
     Call::ConfigurationRead { id, offset: word + width * k % 4, width }

@@ -5,7 +5,8 @@
 use benchmark::stack;
 use ivshmem::CONFIGURATION_BYTES;
 
-/// No access to configuration space lays out the space: what it needs, all functions that it calls included, is less than that.
+/// No access to configuration space lays out the space: what the benchmark's calls need, all functions below them included, is
+/// less than that.
 #[test]
 fn no_page_of_configuration_space() {
     let depths: Vec<_> = stack::depths().into_iter().filter(|depth| depth.name.contains("configuration")).collect();

@@ -100,7 +100,8 @@ impl<'a> Hub<'a> {
         filled(counted, table)
     }
 
-    /// Reads 1, 2 or 4 bytes of the peer's configuration space. An accepted read is its reads of one byte, little-endian.
+    /// Reads 1, 2 or 4 bytes of the peer's configuration space. An accepted read gives what its reads of one byte give,
+    /// little-endian.
     ///
     /// # Errors
     /// [`Refusal::UnsoundHub`], [`Refusal::NoSuchPeer`], [`Refusal::NotConnected`], [`Refusal::BadWidth`],

@@ -192,42 +192,53 @@ fn configuration() {
     assert_eq!(host.hub.configuration_write(PeerId(3), 0x10, 4, 0), Err(Refusal::NoSuchPeer));
 }
 
-/// An access is the accesses of one byte at its offsets, lowest first, refusals too; but not where it is refused for its offset.
+/// An access that is not refused with 7 is the accesses of one byte at its offsets, lowest first, refused or not.
 #[test]
 fn configuration_split() {
     let (ones, mixed, zeros) = (u32::MAX, 0x8142_e35c, 0);
-    for (peer, before, value) in
-        [(ONE, zeros, ones), (ONE, ones, zeros), (ONE, ones, mixed), (ONE, mixed, !mixed), (PeerId(2), zeros, ones)]
-    {
+    for (peer, before, value) in [
+        (ONE, zeros, ones),
+        (ONE, ones, zeros),
+        (ONE, ones, mixed),
+        (ONE, mixed, !mixed),
+        (PeerId(2), zeros, ones),
+        (PeerId(3), zeros, ones),
+    ] {
         let mut words = ANY;
         let mut host = Host::new(&mut words);
         for offset in (0..CONFIGURATION_BYTES).step_by(4) {
             host.hub.configuration_write(ONE, offset, 4, before).unwrap();
         }
         for (offset, width) in (0..CONFIGURATION_BYTES + 8).flat_map(|offset| [1, 2, 4].map(|width| (offset, width))) {
-            let mut words = [host.hub.words().to_vec(), host.hub.words().to_vec()];
-            let [mut whole, mut split] = words.each_mut().map(|words| Hub::from_words(words));
-            let read = whole.configuration_read(peer, offset, width);
-            let written = whole.configuration_write(peer, offset, width, value);
-            if read == Err(Refusal::Misaligned) {
-                assert_eq!(written, Err(Refusal::Misaligned));
-                continue;
-            }
-            let places = || (0..width).map(|j| (offset + j, 8 * j));
-            let bytes: Vec<_> = places().map(|(at, _)| split.configuration_read(peer, at, 1)).collect();
-            match read {
-                Ok(value) => {
-                    assert_eq!(bytes, places().map(|(_, shift)| Ok(value >> shift & 0xff)).collect::<Vec<_>>())
-                }
-                Err(_) => assert_eq!(bytes, vec![read; width as usize]),
-            }
-            let written_too: Vec<_> =
-                places().map(|(at, shift)| split.configuration_write(peer, at, 1, value >> shift & 0xff)).collect();
-            assert_eq!(written_too, vec![written; width as usize]);
-            assert_eq!(whole, split, "{value:x} of {width} bytes at {offset:x}");
-            assert!(read.map_or(0, u64::from) >> (8 * width) == 0);
+            splits(host.hub.words(), peer, offset, width, value);
         }
     }
+    splits(&ANY, ONE, 0x04, 4, ones);
+}
+
+fn splits(words: &[u32], peer: PeerId, offset: u64, width: u64, value: u32) {
+    let (mut one, mut other) = (words.to_vec(), words.to_vec());
+    let (mut whole, mut split) = (Hub::from_words(&mut one), Hub::from_words(&mut other));
+    let read = whole.configuration_read(peer, offset, width);
+    let written = whole.configuration_write(peer, offset, width, value);
+    let places = || (0..width).map(|j| (offset + j, 8 * j));
+    let bytes: Vec<_> = places().map(|(at, _)| split.configuration_read(peer, at, 1)).collect();
+    if peer == ONE && !offset.is_multiple_of(width) {
+        assert_eq!((read, written), (Err(Refusal::Misaligned), Err(Refusal::Misaligned)));
+        assert!(offset + width > CONFIGURATION_BYTES || bytes.iter().all(Result::is_ok));
+        return;
+    }
+    match read {
+        Ok(value) => {
+            assert_eq!(bytes, places().map(|(_, shift)| Ok(value >> shift & 0xff)).collect::<Vec<_>>());
+            assert_eq!(u64::from(value) >> (8 * width), 0);
+        }
+        Err(_) => assert_eq!(bytes, vec![read; width as usize]),
+    }
+    let bytes_written: Vec<_> =
+        places().map(|(at, shift)| split.configuration_write(peer, at, 1, value >> shift & 0xff)).collect();
+    assert_eq!(bytes_written, vec![written; width as usize]);
+    assert_eq!(whole, split, "{value:x} of {width} bytes at {offset:x}");
 }
 
 #[test]
