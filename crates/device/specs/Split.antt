@@ -19,7 +19,7 @@ readCall who at width = call who (configurationRead at width)
 abbrev pub writeCall : (who at width value : ℕ) → Call
 writeCall who at width value = call who (configurationWrite at width value)
 
--- the numbers of the accesses that may be split: 0, accepted, and the other refusals
+-- the numbers of the accesses that may be split: 0, which is accepted, and the refusals 10, 3, 4 and 8
 abbrev pub Splittable : ℕ → Type 0
 Splittable number = (number ≡ 6 → ⊥) × (number ≡ 7 → ⊥)
 
@@ -28,7 +28,8 @@ abbrev pub gives : (number value : ℕ) → World → Outcome
 gives number value w =
     record { number = number; value = value; answer = noSection; loaded = []; deliveries = []; world = w }
 
--- A read, with the outcome o: each read of one byte has its number and gives its byte, and its value is theirs, little-endian.
+-- A read, with the outcome o: each read of one byte has the number of the whole and gives a byte of its value, and that value is
+-- theirs, little-endian.
 pub record ReadSplit (w : World) (who at width : ℕ) (o : Outcome) : Type 0 where
   pub each : (j : ℕ) → j < width → step w (readCall who (at + j) 1) ≡ gives (o .number) (byte j (o .value)) w
   pub whole : o ≡ gives (o .number) (number (tabulate width (λ j. step w (readCall who (at + j) 1) .value))) w
@@ -46,7 +47,8 @@ byteWrite who at value j = writeCall who (at + j) 1 (byte j value)
 abbrev pub afterBytes : World → (who at value n : ℕ) → World
 afterBytes w who at value n = after w (tabulate n (λ j. byteWrite who at value j))
 
--- A write, with the outcome o: each write of one byte has its number, and together they leave the world that it leaves.
+-- A write, with the outcome o: each write of one byte, one after the other, has the number of the whole, and together they leave the
+-- world that it leaves.
 pub record WriteSplit (w : World) (who at width value : ℕ) (o : Outcome) : Type 0 where
   pub each : (j : ℕ) → j < width
       → step (afterBytes w who at value j) (byteWrite who at value j) ≡ gives (o .number) 0 (afterBytes w who at value (suc j))
