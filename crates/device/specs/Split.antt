@@ -1,9 +1,11 @@
 -- C-14 over whole calls: an access to configuration space is the accesses of one byte at its offsets, from the lowest on. A host may
 -- split one in any world. Only an access that is refused with 6 or 7 is not its bytes: its width is not allowed or its offset not a
 -- multiple of it, and each byte alone may be accepted.
-use Prim.Native.Nat.{ℕ, suc, _+_, _<_}
+use Prim.Native.Nat.{ℕ, suc, _+_, _%_, _<_}
+use mathlib.Core.Bool.{true, _||_}
 use mathlib.Core.List.{[]}
 use mathlib.Core.Path.{_≡_}
+use lib.Dec.{eqb}
 use Rattle.common.specs.Bytes.{byte, number}
 use Rattle.common.specs.Lists.{tabulate}
 use Rattle.device.specs.Call.{Call, call}
@@ -59,3 +61,12 @@ WriteSplits =
     (w : World) (who at width value : ℕ)
     → Splittable (step w (writeCall who at width value) .number)
     → WriteSplit w who at width value (step w (writeCall who at width value))
+
+-- An access of 1, 2 or 4 bytes at a multiple of its width is never refused with 6 or 7: so a host knows before the call what it may
+-- split.
+abbrev pub AlignedSplits : Type 0
+AlignedSplits =
+    (w : World) (who at width value : ℕ)
+    → (eqb width 1 || eqb width 2 || eqb width 4) ≡ true
+    → at % width ≡ 0
+    → Splittable (step w (readCall who at width) .number) × Splittable (step w (writeCall who at width value) .number)
