@@ -131,8 +131,9 @@ ivshmem_counted ivshmem_reset(uint32_t *hub, size_t hub_words, uint8_t *region, 
  * Calls by a guest, each with the id of the peer that makes it.
  */
 
-/* Configuration space; widths 1, 2 and 4. An accepted access gives and leaves what its accesses of one byte do, lowest first.
-   Refused with 10, 3, 4, 6, 7 or 8. */
+/* Configuration space; widths 1, 2 and 4. An accepted access gives and leaves what its accesses of one byte do, lowest first and
+   with no other call between them (docs/CALLS.md, 'Splitting an access to configuration space'). Refused with 10, 3, 4, 6, 7
+   or 8. */
 ivshmem_reply ivshmem_configuration_read(const uint32_t *hub, size_t hub_words, uint64_t id, uint64_t offset, uint64_t width);
 ivshmem_reply ivshmem_configuration_write(uint32_t *hub, size_t hub_words, uint64_t id, uint64_t offset, uint64_t width,
                                           uint32_t value);

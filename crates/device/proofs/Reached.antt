@@ -59,7 +59,7 @@ right-region s region Lent.region e = rw (eq-eqb (length region) (total s) e)
 right-region s region (Lent.regionAndTable n) e = rw (eq-eqb (length region) (total s) e)
 
 -- the checks 4 to 9, of the caller and its access
-abbrev pub ownChecks : Settings → Bool → ℕ → Access → List Row
+abbrev ownChecks : Settings → Bool → ℕ → Access → List Row
 ownChecks s connected who access =
     row 4 (missing connected access)
     ∷ row 5 (present connected access)

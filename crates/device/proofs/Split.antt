@@ -1,12 +1,12 @@
--- An access to configuration space that is not refused with 6 or 7 is the accesses of its bytes: they have its number, a read gives
--- their values and a write leaves what they leave one after the other. Shown once over the width.
+-- The number of an access to configuration space, exactly; and that one which is not refused with 6 or 7 is the accesses of its bytes:
+-- they have its number, a read gives their values and a write leaves what they leave one after the other. Shown once over the width.
 use Prim.Native.Nat.{ℕ, zero, suc, _+_, _%_, _<_, _≤_}
-use mathlib.Core.Bool.{Bool, true, false, cond, not, _||_}
+use mathlib.Core.Bool.{Bool, true, false, not}
 use mathlib.Core.List.{List, _∷_}
 use mathlib.Core.Path.{_≡_, refl, sym, ap, subst, _∙_}
 use native.Mathlib.Nat.{zero-div}
 use native.Mathlib.Omega.{arith}
-use borrow.Author.Tests.{eqb-true, eqb-false, eq-eqb, leb-false, ltb-true, lt-ltb, not-false}
+use borrow.Author.Tests.{eqb-true, eq-eqb, leb-false, ltb-true, lt-ltb, not-false}
 use lib.Dec.{eqb, leb, ltb}
 use lib.ListN.{length}
 use lib.Seq.{getD-set-same, set-getD, set-set}
@@ -22,75 +22,36 @@ use Rattle.device.specs.Call.Act.{configurationWrite}
 use Rattle.device.specs.Configuration.{configurationRead, configurationWritten}
 use Rattle.device.specs.Effect.{effect}
 use Rattle.device.specs.History.{after}
-use Rattle.device.specs.Refusal.{Access, lentTo, accessOf, wrongRegion, shortTable, missing, present, wrongWidth, misaligned, outside, forbidden, isConnected, refusal}
+use Rattle.device.specs.Refusal.{lentTo, accessOf, wrongRegion, shortTable, missing, present, wrongWidth, misaligned, outside, forbidden, isConnected, refusal}
 use Rattle.device.specs.SetUp.{accepted}
 use Rattle.device.specs.Sound.{slotSound, sound}
-use Rattle.device.specs.Split.{readCall, writeCall, byteWrite, afterBytes, gives, Splittable, ReadSplit, ReadSplits, WriteSplit, WriteSplits, AlignedSplits}
+use Rattle.device.specs.Split.{readCall, writeCall, anyWidth, placeRows, accessNumber, AccessNumbers, Splittable, gives, ReadSplit, ReadSplits, byteWrite, afterBytes, WriteSplit, WriteSplits}
 use Rattle.device.specs.Step.{Outcome, run, runAll, stepBy, step}
 use Rattle.device.specs.World.{Slot, World, world, zeroSlot, slotAt, withSlot, withPeer}
 use Rattle.device.proofs.ConfigurationLaws.{in-one-word, read-by-bytes, read-within, written-last}
 use Rattle.device.proofs.FixedLaws.{written-connected}
 use Rattle.device.proofs.HistoryLaws.{effect-sound}
 use Rattle.device.proofs.OneShot.{has-slot}
-use Rattle.device.proofs.Reached.{after-one, ownChecks}
+use Rattle.device.proofs.Reached.{after-one}
 use Rattle.device.proofs.StepLaws.{step-number}
 
--- The number of an access.
+-- The number of an access: of the table's rows those that can apply to configuration space.
 
--- checks 10 and 3, then those of the caller and its access; what is not lent cannot fail
-abbrev refusalOf : (unsound unknown connected : Bool) → Settings → (who at width : ℕ) → ℕ
-refusalOf unsound unknown connected s who at width =
-    first (row 10 unsound ∷ row 3 unknown ∷ ownChecks s connected who (Access.configuration at width))
+read-number : (w : World) (who at width : ℕ) → refusal w (readCall who at width) ≡ accessNumber w who at width
+unfolding refusal first lentTo accessOf wrongRegion shortTable missing present wrongWidth misaligned outside forbidden
+read-number w who at width = refl
 
-abbrev accessRefusal : World → (who at width : ℕ) → ℕ
-accessRefusal w who at width =
-    refusalOf (not (sound (w .hub))) (leb (w .hub .settings .peers) who) (isConnected w who) (w .hub .settings) who at width
+write-number : (w : World) (who at width value : ℕ) → refusal w (writeCall who at width value) ≡ accessNumber w who at width
+unfolding refusal first lentTo accessOf wrongRegion shortTable missing present wrongWidth misaligned outside forbidden
+write-number w who at width value = refl
 
-read-refusal : (w : World) (who at width : ℕ) → refusal w (readCall who at width) ≡ accessRefusal w who at width
-unfolding refusal first lentTo accessOf wrongRegion shortTable
-read-refusal w who at width = refl
-
-write-refusal : (w : World) (who at width value : ℕ) → refusal w (writeCall who at width value) ≡ accessRefusal w who at width
-unfolding refusal first lentTo accessOf wrongRegion shortTable
-write-refusal w who at width value = refl
-
--- Where the width is 1, 2 or 4 and the offset a multiple of it, neither 6 nor 7 is given.
-
-other : (n : ℕ) → eqb n 6 ≡ false → eqb n 7 ≡ false → Splittable n
-other n e f = (eqb-false n 6 e, eqb-false n 7 f)
-
-passes : (at width : ℕ) → (eqb width 1 || eqb width 2 || eqb width 4) ≡ true → at % width ≡ 0
-    → (wrongWidth (Access.configuration at width) ≡ false) × (misaligned (Access.configuration at width) ≡ false)
-unfolding wrongWidth misaligned
-passes at width e a = (ap (λ (t : Bool). not t) e, ap (λ (t : Bool). not t) (eq-eqb (at % width) 0 a))
-
-aligned-refusal : (unsound unknown connected : Bool) (s : Settings) (who at width : ℕ)
-    → (eqb width 1 || eqb width 2 || eqb width 4) ≡ true → at % width ≡ 0 → Splittable (refusalOf unsound unknown connected s who at width)
-unfolding first missing present forbidden
-aligned-refusal true unknown connected s who at width e a = other 10 refl refl
-aligned-refusal false true connected s who at width e a = other 3 refl refl
-aligned-refusal false false false s who at width e a = other 4 refl refl
-aligned-refusal false false true s who at width e a =
-    rw (passes at width e a .0, passes at width e a .1) (end (outside s (Access.configuration at width)))
-  where
-    end : (t : Bool) → Splittable (cond t 8 0)
-    end true = other 8 refl refl
-    end false = other 0 refl refl
-
-pub aligned-splits : AlignedSplits
-aligned-splits w who at width value e a =
-    let n : Splittable (accessRefusal w who at width) = aligned-refusal _ _ _ _ who at width e a in (
-      subst Splittable (sym (step-number w (readCall who at width) ∙ read-refusal w who at width)) n,
-      subst Splittable (sym (step-number w (writeCall who at width value) ∙ write-refusal w who at width value)) n,
-    )
+pub access-numbers : AccessNumbers
+access-numbers w who at width value = (
+  step-number w (readCall who at width) ∙ read-number w who at width,
+  step-number w (writeCall who at width value) ∙ write-number w who at width value,
+)
 
 -- An access and its bytes.
-
--- an access that passes checks 6 and 7 lies in one word
-in-word : (at width : ℕ) → wrongWidth (Access.configuration at width) ≡ false → misaligned (Access.configuration at width) ≡ false
-    → at % 4 + width ≤ 4
-unfolding wrongWidth misaligned
-in-word at width e f = in-one-word at width (not-false _ e) (eqb-true (at % width) 0 (not-false _ f))
 
 -- a space that ends where a word does: an access that lies in a word is outside with each of its bytes
 same-end : (at width j size : ℕ) → at % 4 + width ≤ 4 → j < width → size % 4 ≡ 0 → ltb size (at + j + 1) ≡ ltb size (at + width)
@@ -99,35 +60,28 @@ same-end at width j size h l e =
     (λ f. lt-ltb size (at + width) (omega (arith, ltb-true size (at + j + 1) f)))
     (λ f. lt-ltb size (at + j + 1) (omega (arith, ltb-true size (at + width) f)))
 
-byte-outside : (s : Settings) (at width j : ℕ) → at % 4 + width ≤ 4 → j < width
-    → outside s (Access.configuration (at + j) 1) ≡ outside s (Access.configuration at width)
-unfolding outside
-byte-outside s at width j h l = same-end at width j _ h l refl
-
-byte-checks : (s : Settings) (who at width j : ℕ) → j < width → Splittable (first (ownChecks s true who (Access.configuration at width)))
-    → first (ownChecks s true who (Access.configuration (at + j) 1)) ≡ first (ownChecks s true who (Access.configuration at width))
-unfolding first missing present forbidden
-byte-checks s who at width j h ok = go (wrongWidth access) refl (misaligned access) refl
+byte-place : (at width j : ℕ) → j < width → Splittable (first (placeRows at width)) → first (placeRows (at + j) 1) ≡ first (placeRows at width)
+unfolding first
+byte-place at width j h ok = go (anyWidth width) refl (eqb (at % width) 0) refl
   where
-    access : Access
-    access = Access.configuration at width
+    go : (t : Bool) → anyWidth width ≡ t → (u : Bool) → eqb (at % width) 0 ≡ u → first (placeRows (at + j) 1) ≡ first (placeRows at width)
+    go false e u f = absurd (ok .0 (rw e))
+    go true e false f = absurd (ok .1 (rw (e, f)))
+    go true e true f =
+        let in-word : at % 4 + width ≤ 4 = in-one-word at width e (eqb-true (at % width) 0 f) in
+        rw (e, f, eq-eqb ((at + j) % 1) 0 (omega arith), same-end at width j 256 in-word h refl)
 
-    go : (t : Bool) → wrongWidth access ≡ t → (u : Bool) → misaligned access ≡ u
-        → first (ownChecks s true who (Access.configuration (at + j) 1)) ≡ first (ownChecks s true who access)
-    go true e u f = absurd (ok .0 (rw e))
-    go false e true f = absurd (ok .1 (rw (e, f)))
-    go false e false f =
-        let single = passes (at + j) 1 refl (omega arith) in
-        rw (e, f, single .0, single .1, byte-outside s at width j (in-word at width e f) h)
+-- by what checks 10, 3 and 4 find
+abbrev numberBy : (unsound unknown absent : Bool) → (at width : ℕ) → ℕ
+numberBy unsound unknown absent at width = first (row 10 unsound ∷ row 3 unknown ∷ row 4 absent ∷ placeRows at width)
 
-byte-refusal : (unsound unknown connected : Bool) (s : Settings) (who at width j : ℕ) → j < width
-    → Splittable (refusalOf unsound unknown connected s who at width)
-    → refusalOf unsound unknown connected s who (at + j) 1 ≡ refusalOf unsound unknown connected s who at width
-unfolding first missing
-byte-refusal true unknown connected s who at width j h ok = refl
-byte-refusal false true connected s who at width j h ok = refl
-byte-refusal false false false s who at width j h ok = refl
-byte-refusal false false true s who at width j h ok = byte-checks s who at width j h ok
+byte-number : (unsound unknown absent : Bool) (at width j : ℕ) → j < width
+    → Splittable (numberBy unsound unknown absent at width) → numberBy unsound unknown absent (at + j) 1 ≡ numberBy unsound unknown absent at width
+unfolding first
+byte-number true unknown absent at width j h ok = refl
+byte-number false true absent at width j h ok = refl
+byte-number false false true at width j h ok = refl
+byte-number false false false at width j h ok = byte-place at width j h ok
 
 -- by the number of an access: the first where it is accepted, else the second
 abbrev ifAccepted {ℓ} : {A : Type ℓ} → (number : ℕ) → A → A → A
@@ -163,9 +117,9 @@ module _ (w : World) (who at width : ℕ) (ok : Splittable (step w (readCall who
   byte-outcome j h =
       let may-split : Splittable readRefusal = subst Splittable (step-number w (readCall who at width)) ok in
       let same : refusal w (readCall who (at + j) 1) ≡ readRefusal =
-      read-refusal w who (at + j) 1
-      ∙ byte-refusal _ _ _ _ who at width j h (subst Splittable (read-refusal w who at width) may-split)
-      ∙ sym (read-refusal w who at width) in
+      read-number w who (at + j) 1
+      ∙ byte-number _ _ _ at width j h (subst Splittable (read-number w who at width) may-split)
+      ∙ sym (read-number w who at width) in
       ap (λ (m : ℕ). stepBy m w (readCall who (at + j) 1)) same ∙ read-by readRefusal w who (at + j) 1
 
   byte-value : (m j : ℕ) → j < width → ifAccepted m (read (at + j) 1) 0 ≡ byte j (ifAccepted m (read at width) 0)
@@ -209,15 +163,13 @@ record Caller (w : World) (who : ℕ) : Type 0 where
   known : leb (w .hub .settings .peers) who ≡ false
   connected : isConnected w who ≡ true
 
-caller-refusal : (w : World) (who at width value : ℕ) → Caller w who
-    → refusal w (writeCall who at width value) ≡ first (ownChecks (w .hub .settings) true who (Access.configuration at width))
+caller-number : (w : World) (who at width value : ℕ) → Caller w who → refusal w (writeCall who at width value) ≡ first (placeRows at width)
 unfolding first
-caller-refusal w who at width value r = write-refusal w who at width value ∙ rw (r .sound-hub, r .known, r .connected)
+caller-number w who at width value r = write-number w who at width value ∙ rw (r .sound-hub, r .known, r .connected)
 
 accepted-caller : (w : World) (who at width value : ℕ) → refusal w (writeCall who at width value) ≡ 0 → Caller w who
-unfolding missing
 accepted-caller w who at width value e =
-    let r10 = first-zero 9 _ _ (sym (write-refusal w who at width value) ∙ e) in
+    let r10 = first-zero 9 _ _ (sym (write-number w who at width value) ∙ e) in
     let r3 = first-zero 2 _ _ (r10 .1) in
     let r4 = first-zero 3 _ _ (r3 .1) in
     record { sound-hub = not-false _ (r10 .0); known = r3 .0; connected = not-false _ (r4 .0) }
@@ -268,8 +220,8 @@ module _ (w : World) (who at width value : ℕ) (ok : Splittable (step w (writeC
   abbrev written : ℕ → Peer
   written k = configurationWritten (w .hub .settings) (slotAt (w .hub) who .peer) at k value
 
-  -- what the first k writes leave
-  abbrev left : (number k : ℕ) → World
+  -- what the first k writes leave, by the number of the whole
+  abbrev left : (m k : ℕ) → World
   left m k = ifAccepted m (withRegisters w who (written k)) w
 
   may-split : Splittable writeRefusal
@@ -280,24 +232,25 @@ module _ (w : World) (who at width value : ℕ) (ok : Splittable (step w (writeC
   one-write zero e k h =
       let r : Caller w who = accepted-caller w who at width value e in
       let u : World = withRegisters w who (written k) in
-      let rows : first (ownChecks (w .hub .settings) true who (Access.configuration at width)) ≡ 0 = sym (caller-refusal w who at width value r) ∙ e in
-      let number : refusal u (byteWrite who at value k) ≡ 0 =
-      caller-refusal u who (at + k) 1 (byte k value) (caller-stays w who at k value r)
-      ∙ byte-checks (w .hub .settings) who at width k h (subst Splittable (caller-refusal w who at width value r) may-split)
-      ∙ rows in
+      let same : refusal u (byteWrite who at value k) ≡ 0 =
+      caller-number u who (at + k) 1 (byte k value) (caller-stays w who at k value r)
+      ∙ byte-place at width k h (subst Splittable (caller-number w who at width value r) may-split)
+      ∙ sym (caller-number w who at width value r)
+      ∙ e in
       let near : who < length (w .hub .slots) = has-slot w who (r .connected) in
       let here : slotAt (u .hub) who .peer ≡ written k = ap (λ (x : Slot). x .peer) (getD-set-same (w .hub .slots) who _ zeroSlot near) in
-      ap (λ (m : ℕ). stepBy m u (byteWrite who at value k)) number
+      let next : Peer = configurationWritten (w .hub .settings) (written k) (at + k) 1 (byte k value) in
+      ap (λ (m : ℕ). stepBy m u (byteWrite who at value k)) same
       ∙ write-by 0 u who (at + k) 1 (byte k value)
       ∙ ap (λ (x : World). gives 0 0 x)
-      (rw (here, registers-twice w who (written k) (configurationWritten (w .hub .settings) (written k) (at + k) 1 (byte k value)) near, written-last (w .hub .settings) (slotAt (w .hub) who .peer) at k value))
+      (rw (here, registers-twice w who (written k) next near, written-last (w .hub .settings) (slotAt (w .hub) who .peer) at k value))
   one-write (suc m) e k h =
-      let number : refusal w (byteWrite who at value k) ≡ suc m =
-      write-refusal w who (at + k) 1 (byte k value)
-      ∙ byte-refusal _ _ _ _ who at width k h (subst Splittable (write-refusal w who at width value) may-split)
-      ∙ sym (write-refusal w who at width value)
+      let same : refusal w (byteWrite who at value k) ≡ suc m =
+      write-number w who (at + k) 1 (byte k value)
+      ∙ byte-number _ _ _ at width k h (subst Splittable (write-number w who at width value) may-split)
+      ∙ sym (write-number w who at width value)
       ∙ e in
-      ap (λ (m : ℕ). stepBy m w (byteWrite who at value k)) number ∙ write-by (suc m) w who (at + k) 1 (byte k value)
+      ap (λ (m : ℕ). stepBy m w (byteWrite who at value k)) same ∙ write-by (suc m) w who (at + k) 1 (byte k value)
 
   left-none : (m : ℕ) → w ≡ left m 0
   unfolding configurationWritten

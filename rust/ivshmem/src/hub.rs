@@ -101,7 +101,7 @@ impl<'a> Hub<'a> {
     }
 
     /// Reads 1, 2 or 4 bytes of the peer's configuration space. An accepted read gives what its reads of one byte give,
-    /// little-endian.
+    /// little-endian, with no call between them that changes the hub.
     ///
     /// # Errors
     /// [`Refusal::UnsoundHub`], [`Refusal::NoSuchPeer`], [`Refusal::NotConnected`], [`Refusal::BadWidth`],
@@ -111,7 +111,7 @@ impl<'a> Hub<'a> {
     }
 
     /// Writes the low 1, 2 or 4 bytes of `value` to the peer's configuration space; bits that can't be written stay.
-    /// An accepted write leaves what its writes of one byte leave, lowest first.
+    /// An accepted write leaves what its writes of one byte leave, lowest first and with no other call between them.
     ///
     /// # Errors
     /// As for [`configuration_read`](Hub::configuration_read).
