@@ -192,6 +192,38 @@ fn configuration() {
     assert_eq!(host.hub.configuration_write(PeerId(3), 0x10, 4, 0), Err(Refusal::NoSuchPeer));
 }
 
+/// The number of an access: by the hub and the id, then by offset and width alone.
+#[test]
+fn configuration_numbers() {
+    let mut words = ANY;
+    let mut host = Host::new(&mut words);
+    let mut other = ANY;
+    let mut unsound = Hub::from_words(&mut other);
+    let near_the_end = u64::MAX - 8..=u64::MAX;
+    for offset in (0..=CONFIGURATION_BYTES + 8).chain(near_the_end) {
+        for width in (0..=9).chain([16, 256, 1 << 32, u64::MAX]) {
+            let expected = if ![1, 2, 4].contains(&width) {
+                Err(Refusal::BadWidth)
+            } else if offset % width != 0 {
+                Err(Refusal::Misaligned)
+            } else if offset > CONFIGURATION_BYTES - width {
+                Err(Refusal::OutOfRange)
+            } else {
+                Ok(())
+            };
+            let numbers = |hub: &mut Hub<'_>, peer| {
+                let read = hub.configuration_read(peer, offset, width).map(|_| ());
+                (read, hub.configuration_write(peer, offset, width, 0))
+            };
+            assert_eq!(numbers(&mut host.hub, ONE), (expected, expected), "{width} bytes at {offset:x}");
+            for (peer, refusal) in [(PeerId(2), Refusal::NotConnected), (PeerId(3), Refusal::NoSuchPeer)] {
+                assert_eq!(numbers(&mut host.hub, peer), (Err(refusal), Err(refusal)));
+            }
+            assert_eq!(numbers(&mut unsound, ONE), (Err(Refusal::UnsoundHub), Err(Refusal::UnsoundHub)));
+        }
+    }
+}
+
 /// An access that is not refused with 7 is the accesses of one byte at its offsets, lowest first, refused or not.
 #[test]
 fn configuration_split() {
