@@ -1,12 +1,12 @@
 -- The number of an access to configuration space, exactly; and that one which is not refused with 6 or 7 is the accesses of its bytes:
 -- they have its number, a read gives their values and a write leaves what they leave one after the other. Shown once over the width.
 use Prim.Native.Nat.{ℕ, zero, suc, _+_, _%_, _<_, _≤_}
-use mathlib.Core.Bool.{Bool, true, false, not}
+use mathlib.Core.Bool.{Bool, true, false, cond, not}
 use mathlib.Core.List.{List, _∷_}
 use mathlib.Core.Path.{_≡_, refl, sym, ap, subst, _∙_}
 use native.Mathlib.Nat.{zero-div}
 use native.Mathlib.Omega.{arith}
-use borrow.Author.Tests.{eqb-true, eq-eqb, leb-false, ltb-true, lt-ltb, not-false}
+use borrow.Author.Tests.{eqb-true, eqb-false, eq-eqb, leb-false, ltb-true, lt-ltb, not-false}
 use lib.Dec.{eqb, leb, ltb}
 use lib.ListN.{length}
 use lib.Seq.{getD-set-same, set-getD, set-set}
@@ -25,7 +25,7 @@ use Rattle.device.specs.History.{after}
 use Rattle.device.specs.Refusal.{lentTo, accessOf, wrongRegion, shortTable, missing, present, wrongWidth, misaligned, outside, forbidden, isConnected, refusal}
 use Rattle.device.specs.SetUp.{accepted}
 use Rattle.device.specs.Sound.{slotSound, sound}
-use Rattle.device.specs.Split.{readCall, writeCall, anyWidth, placeRows, accessNumber, AccessNumbers, Splittable, gives, ReadSplit, ReadSplits, byteWrite, afterBytes, WriteSplit, WriteSplits}
+use Rattle.device.specs.Split.{readCall, writeCall, anyWidth, configurationRows, accessNumber, AccessNumbers, Splittable, gives, ReadSplit, ReadSplits, byteWrite, afterBytes, WriteSplit, WriteSplits, AlignedSplits}
 use Rattle.device.specs.Step.{Outcome, run, runAll, stepBy, step}
 use Rattle.device.specs.World.{Slot, World, world, zeroSlot, slotAt, withSlot, withPeer}
 use Rattle.device.proofs.ConfigurationLaws.{in-one-word, read-by-bytes, read-within, written-last}
@@ -51,6 +51,34 @@ access-numbers w who at width value = (
   step-number w (writeCall who at width value) ∙ write-number w who at width value,
 )
 
+-- by what checks 10, 3 and 4 find
+abbrev numberBy : (unsound unknown absent : Bool) → (at width : ℕ) → ℕ
+numberBy unsound unknown absent at width = first (row 10 unsound ∷ row 3 unknown ∷ row 4 absent ∷ configurationRows at width)
+
+-- Where the width is 1, 2 or 4 and the offset a multiple of it, neither 6 nor 7 is given.
+
+neither : (n : ℕ) → eqb n 6 ≡ false → eqb n 7 ≡ false → Splittable n
+neither n e f = (eqb-false n 6 e, eqb-false n 7 f)
+
+aligned-number : (unsound unknown absent : Bool) (at width : ℕ) → anyWidth width ≡ true → at % width ≡ 0
+    → Splittable (numberBy unsound unknown absent at width)
+unfolding first
+aligned-number true unknown absent at width e a = neither 10 refl refl
+aligned-number false true absent at width e a = neither 3 refl refl
+aligned-number false false true at width e a = neither 4 refl refl
+aligned-number false false false at width e a = rw (e, eq-eqb (at % width) 0 a) (end (ltb 256 (at + width)))
+  where
+    end : (t : Bool) → Splittable (cond t 8 0)
+    end true = neither 8 refl refl
+    end false = neither 0 refl refl
+
+pub aligned-splits : AlignedSplits
+aligned-splits w who at width value e a =
+    let n : Splittable (accessNumber w who at width) = aligned-number _ _ _ at width e a in (
+      subst Splittable (sym (access-numbers w who at width value .0)) n,
+      subst Splittable (sym (access-numbers w who at width value .1)) n,
+    )
+
 -- An access and its bytes.
 
 -- a space that ends where a word does: an access that lies in a word is outside with each of its bytes
@@ -60,20 +88,16 @@ same-end at width j size h l e =
     (λ f. lt-ltb size (at + width) (omega (arith, ltb-true size (at + j + 1) f)))
     (λ f. lt-ltb size (at + j + 1) (omega (arith, ltb-true size (at + width) f)))
 
-byte-place : (at width j : ℕ) → j < width → Splittable (first (placeRows at width)) → first (placeRows (at + j) 1) ≡ first (placeRows at width)
+byte-rows : (at width j : ℕ) → j < width → Splittable (first (configurationRows at width)) → first (configurationRows (at + j) 1) ≡ first (configurationRows at width)
 unfolding first
-byte-place at width j h ok = go (anyWidth width) refl (eqb (at % width) 0) refl
+byte-rows at width j h ok = go (anyWidth width) refl (eqb (at % width) 0) refl
   where
-    go : (t : Bool) → anyWidth width ≡ t → (u : Bool) → eqb (at % width) 0 ≡ u → first (placeRows (at + j) 1) ≡ first (placeRows at width)
+    go : (t : Bool) → anyWidth width ≡ t → (u : Bool) → eqb (at % width) 0 ≡ u → first (configurationRows (at + j) 1) ≡ first (configurationRows at width)
     go false e u f = absurd (ok .0 (rw e))
     go true e false f = absurd (ok .1 (rw (e, f)))
     go true e true f =
         let in-word : at % 4 + width ≤ 4 = in-one-word at width e (eqb-true (at % width) 0 f) in
         rw (e, f, eq-eqb ((at + j) % 1) 0 (omega arith), same-end at width j 256 in-word h refl)
-
--- by what checks 10, 3 and 4 find
-abbrev numberBy : (unsound unknown absent : Bool) → (at width : ℕ) → ℕ
-numberBy unsound unknown absent at width = first (row 10 unsound ∷ row 3 unknown ∷ row 4 absent ∷ placeRows at width)
 
 byte-number : (unsound unknown absent : Bool) (at width j : ℕ) → j < width
     → Splittable (numberBy unsound unknown absent at width) → numberBy unsound unknown absent (at + j) 1 ≡ numberBy unsound unknown absent at width
@@ -81,7 +105,7 @@ unfolding first
 byte-number true unknown absent at width j h ok = refl
 byte-number false true absent at width j h ok = refl
 byte-number false false true at width j h ok = refl
-byte-number false false false at width j h ok = byte-place at width j h ok
+byte-number false false false at width j h ok = byte-rows at width j h ok
 
 -- by the number of an access: the first where it is accepted, else the second
 abbrev ifAccepted {ℓ} : {A : Type ℓ} → (number : ℕ) → A → A → A
@@ -163,7 +187,7 @@ record Caller (w : World) (who : ℕ) : Type 0 where
   known : leb (w .hub .settings .peers) who ≡ false
   connected : isConnected w who ≡ true
 
-caller-number : (w : World) (who at width value : ℕ) → Caller w who → refusal w (writeCall who at width value) ≡ first (placeRows at width)
+caller-number : (w : World) (who at width value : ℕ) → Caller w who → refusal w (writeCall who at width value) ≡ first (configurationRows at width)
 unfolding first
 caller-number w who at width value r = write-number w who at width value ∙ rw (r .sound-hub, r .known, r .connected)
 
@@ -234,7 +258,7 @@ module _ (w : World) (who at width value : ℕ) (ok : Splittable (step w (writeC
       let u : World = withRegisters w who (written k) in
       let same : refusal u (byteWrite who at value k) ≡ 0 =
       caller-number u who (at + k) 1 (byte k value) (caller-stays w who at k value r)
-      ∙ byte-place at width k h (subst Splittable (caller-number w who at width value r) may-split)
+      ∙ byte-rows at width k h (subst Splittable (caller-number w who at width value r) may-split)
       ∙ sym (caller-number w who at width value r)
       ∙ e in
       let near : who < length (w .hub .slots) = has-slot w who (r .connected) in

@@ -2,7 +2,7 @@
 -- split one in any world. Only an access that is refused with 6 or 7 is not its bytes: its width is not allowed or its offset not a
 -- multiple of it, and each byte alone may be accepted.
 use Prim.Native.Nat.{ℕ, suc, _+_, _%_, _<_}
-use mathlib.Core.Bool.{Bool, not, _||_}
+use mathlib.Core.Bool.{Bool, true, not, _||_}
 use mathlib.Core.List.{List, [], _∷_}
 use mathlib.Core.Path.{_≡_}
 use lib.Dec.{eqb, leb, ltb}
@@ -25,18 +25,26 @@ readCall who at width = call who (configurationRead at width)
 abbrev pub writeCall : (who at width value : ℕ) → Call
 writeCall who at width value = call who (configurationWrite at width value)
 
--- The number of an access: 10, 3 and 4 by the hub and the id, then 6, 7 and 8 by offset and width alone, in plain arithmetic.
+-- an access to a space of `size` bytes, of a width that is allowed there or not: 6, 7 and 8 in plain arithmetic
+abbrev pub spaceRows : ℕ → Bool → ℕ → ℕ → List Row
+spaceRows size allowed offset width =
+    row 6 (not allowed) ∷ row 7 (not (eqb (offset % width) 0)) ∷ row 8 (ltb size (offset + width)) ∷ []
+
 abbrev pub anyWidth : ℕ → Bool
 anyWidth width = eqb width 1 || eqb width 2 || eqb width 4
 
-abbrev pub placeRows : (at width : ℕ) → List Row
-placeRows at width = row 6 (not (anyWidth width)) ∷ row 7 (not (eqb (at % width) 0)) ∷ row 8 (ltb 256 (at + width)) ∷ []
+abbrev pub configurationRows : (at width : ℕ) → List Row
+configurationRows at width = spaceRows 256 (anyWidth width) at width
 
+-- The number of an access: 10, 3 and 4 by the hub and the id, then 6, 7 and 8 by offset and width alone.
 abbrev pub accessNumber : World → (who at width : ℕ) → ℕ
 accessNumber w who at width =
-    first (row 10 (not (sound (w .hub))) ∷ row 3 (leb (w .hub .settings .peers) who) ∷ row 4 (not (isConnected w who)) ∷ placeRows at width)
+    first
+    (row 10 (not (sound (w .hub)))
+    ∷ row 3 (leb (w .hub .settings .peers) who)
+    ∷ row 4 (not (isConnected w who))
+    ∷ configurationRows at width)
 
--- So a host knows before the call which accesses it may split.
 abbrev pub AccessNumbers : Type 0
 AccessNumbers =
     (w : World) (who at width value : ℕ)
@@ -83,3 +91,12 @@ WriteSplits =
     (w : World) (who at width value : ℕ)
     → Splittable (step w (writeCall who at width value) .number)
     → WriteSplit w who at width value (step w (writeCall who at width value))
+
+-- An access of 1, 2 or 4 bytes at a multiple of its width is never refused with 6 or 7: so a host knows before the call what it may
+-- split.
+abbrev pub AlignedSplits : Type 0
+AlignedSplits =
+    (w : World) (who at width value : ℕ)
+    → anyWidth width ≡ true
+    → at % width ≡ 0
+    → Splittable (step w (readCall who at width) .number) × Splittable (step w (writeCall who at width value) .number)

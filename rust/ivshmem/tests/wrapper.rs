@@ -248,6 +248,27 @@ fn configuration_split() {
     splits(&ANY, ONE, 0x04, 4, ones);
 }
 
+/// An access of 4 bytes is its two halves too, the lower first, refused or not.
+#[test]
+fn configuration_halves() {
+    let mut words = ANY;
+    let mut host = Host::new(&mut words);
+    for (offset, value) in (0..CONFIGURATION_BYTES + 8).step_by(4).flat_map(|at| [(at, u32::MAX), (at, 0x8142_e35c)]) {
+        for peer in [ONE, PeerId(2), PeerId(3)] {
+            let mut copy = host.hub.words().to_vec();
+            let mut halves = Hub::from_words(&mut copy);
+            let written = host.hub.configuration_write(peer, offset, 4, value);
+            assert_eq!(halves.configuration_write(peer, offset, 2, value & 0xffff), written);
+            assert_eq!(halves.configuration_write(peer, offset + 2, 2, value >> 16), written);
+            assert_eq!(host.hub, halves, "{value:x} at {offset:x}");
+            let low = halves.configuration_read(peer, offset, 2);
+            let high = halves.configuration_read(peer, offset + 2, 2);
+            assert_eq!(low.and_then(|low| Ok(low | high? << 16)), host.hub.configuration_read(peer, offset, 4));
+            assert_eq!(low.err(), high.err());
+        }
+    }
+}
+
 fn splits(words: &[u32], peer: PeerId, offset: u64, width: u64, value: u32) {
     let (mut one, mut other) = (words.to_vec(), words.to_vec());
     let (mut whole, mut split) = (Hub::from_words(&mut one), Hub::from_words(&mut other));
