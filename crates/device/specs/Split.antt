@@ -1,6 +1,6 @@
--- C-14 over whole calls: an access to configuration space is the accesses of one byte at its offsets, from the lowest on. A host may
--- split one in any world. Only an access that is refused with 6 or 7 is not its bytes: its width is not allowed or its offset not a
--- multiple of it, and each byte alone may be accepted.
+-- C-14 over whole calls: which number an access to configuration space has, and that it is the accesses of one byte at its offsets,
+-- from the lowest on. A host may split one in any world. Only an access that is refused with 6 or 7 is not its bytes: its width is
+-- not allowed or its offset not a multiple of it, and each byte alone may be accepted.
 use Prim.Native.Nat.{ℕ, suc, _+_, _%_, _<_}
 use mathlib.Core.Bool.{Bool, true, not, _||_}
 use mathlib.Core.List.{List, [], _∷_}
@@ -55,6 +55,15 @@ AccessNumbers =
 abbrev pub Splittable : ℕ → Type 0
 Splittable number = (number ≡ 6 → ⊥) × (number ≡ 7 → ⊥)
 
+-- An access of 1, 2 or 4 bytes at a multiple of its width is never refused with 6 or 7: so a host knows before the call what it may
+-- split.
+abbrev pub AlignedSplits : Type 0
+AlignedSplits =
+    (w : World) (who at width value : ℕ)
+    → anyWidth width ≡ true
+    → at % width ≡ 0
+    → Splittable (step w (readCall who at width) .number) × Splittable (step w (writeCall who at width value) .number)
+
 -- what an access gives: a number, a value and the world afterwards, and no delivery
 abbrev pub gives : (number value : ℕ) → World → Outcome
 gives number value w =
@@ -91,12 +100,3 @@ WriteSplits =
     (w : World) (who at width value : ℕ)
     → Splittable (step w (writeCall who at width value) .number)
     → WriteSplit w who at width value (step w (writeCall who at width value))
-
--- An access of 1, 2 or 4 bytes at a multiple of its width is never refused with 6 or 7: so a host knows before the call what it may
--- split.
-abbrev pub AlignedSplits : Type 0
-AlignedSplits =
-    (w : World) (who at width value : ℕ)
-    → anyWidth width ≡ true
-    → at % width ≡ 0
-    → Splittable (step w (readCall who at width) .number) × Splittable (step w (writeCall who at width value) .number)
