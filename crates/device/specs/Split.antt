@@ -25,18 +25,14 @@ readCall who at width = call who (configurationRead at width)
 abbrev pub writeCall : (who at width value : ℕ) → Call
 writeCall who at width value = call who (configurationWrite at width value)
 
--- an access to a space of `size` bytes, of a width that is allowed there or not: 6, 7 and 8 in plain arithmetic
-abbrev pub spaceRows : ℕ → Bool → ℕ → ℕ → List Row
-spaceRows size allowed offset width =
-    row 6 (not allowed) ∷ row 7 (not (eqb (offset % width) 0)) ∷ row 8 (ltb size (offset + width)) ∷ []
-
+-- The number of an access: 10, 3 and 4 by the hub and the id, then 6, 7 and 8 by offset and width alone, in plain arithmetic.
 abbrev pub anyWidth : ℕ → Bool
 anyWidth width = eqb width 1 || eqb width 2 || eqb width 4
 
 abbrev pub configurationRows : (at width : ℕ) → List Row
-configurationRows at width = spaceRows 256 (anyWidth width) at width
+configurationRows at width =
+    row 6 (not (anyWidth width)) ∷ row 7 (not (eqb (at % width) 0)) ∷ row 8 (ltb 256 (at + width)) ∷ []
 
--- The number of an access: 10, 3 and 4 by the hub and the id, then 6, 7 and 8 by offset and width alone.
 abbrev pub accessNumber : World → (who at width : ℕ) → ℕ
 accessNumber w who at width =
     first

@@ -15,7 +15,6 @@ use Rattle.device.specs.Reset.{resetPeer}
 use Rattle.device.specs.Sections.{sectionOf, somewhere}
 use Rattle.device.specs.SetUp.{accepted, total}
 use Rattle.device.specs.Sound.{sound}
-use Rattle.device.specs.Split.{spaceRows, anyWidth}
 use Rattle.device.specs.World.{Hub, Slot, world, slotAt, withPeer, resetSlot}
 use Rattle.device.proofs.CopyLaws.{absent-slot}
 use Rattle.sections.proofs.OutputLaws.{held-fits}
@@ -23,7 +22,7 @@ use Rattle.soundness.proofs.WholeLaws.{sound-numbers, sound-room}
 use Rattle.words.specs.Layout.{hubOf}
 use Rattle.words.proofs.LayoutLaws.{entries-length}
 use Rattle.hub.specs.declared.Lending.{Lending}
-use Rattle.hub.specs.Admission.{nothingLent, regionLent, bothLent, admission, joiningRows, rangeRows, storeRows, Admitted, Inside, InSection}
+use Rattle.hub.specs.Admission.{nothingLent, regionLent, bothLent, admission, joiningRows, spaceRows, rangeRows, storeRows, anyWidth, Admitted, Inside, InSection}
 
 known-caller : (ws : List ℕ) (lent : Lending) (id : ℕ) → not (sound (hubOf ws)) ≡ false →
     (lent .regional ≡ true → lent .region ≡ total (hubOf ws .settings)) → leb (hubOf ws .settings .peers) id ≡ false →

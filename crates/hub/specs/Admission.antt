@@ -1,7 +1,7 @@
 -- The checks of 'When the hub says no' in the parts that the code makes: those of the hub, of what is lent and of the id, and
 -- those of an access. proofs/RefusalLaws.antt shows that together they are the table.
 use Prim.Native.Nat.{ℕ, _+_, _*_, _%_, _<_, _≤_}
-use mathlib.Core.Bool.{Bool, true, false, not, _&&_}
+use mathlib.Core.Bool.{Bool, true, false, not, _&&_, _||_}
 use mathlib.Core.List.{List, [], _∷_}
 use mathlib.Core.Path.{_≡_}
 use lib.Dec.{eqb, leb, ltb}
@@ -43,7 +43,13 @@ joiningRows hub who =
     ∷ row 5 (eqb (slotAt hub who .peer .connected) 1)
     ∷ []
 
--- an access to a space: device/specs/Split, `spaceRows`
+-- an access to a space of `size` bytes, of a width that is allowed there or not
+abbrev pub spaceRows : ℕ → Bool → ℕ → ℕ → List Row
+spaceRows size allowed offset width =
+    row 6 (not allowed) ∷ row 7 (not (eqb (offset % width) 0)) ∷ row 8 (ltb size (offset + width)) ∷ []
+
+abbrev pub anyWidth : ℕ → Bool
+anyWidth width = eqb width 1 || eqb width 2 || eqb width 4
 
 -- a range of the shared region
 abbrev pub rangeRows : Settings → ℕ → ℕ → List Row

@@ -8,9 +8,8 @@ ghost use mathlib.Core.List.{_++_};
 ghost use Prim.Native.Nat.{_≤_, _<_};
 ghost use Rattle.common.specs.Tests.{first};
 ghost use Rattle.device.specs.SetUp.{accepted};
-ghost use Rattle.device.specs.Split.{spaceRows};
 ghost use Rattle.words.specs.Layout.{hubOf};
-ghost use Rattle.hub.specs.Admission.{nothingLent, regionLent, bothLent, admission, rangeRows, storeRows, Admitted, Inside, InSection};
+ghost use Rattle.hub.specs.Admission.{nothingLent, regionLent, bothLent, admission, spaceRows, rangeRows, storeRows, Admitted, Inside, InSection};
 
 // An answer that reads nothing: 0 or the refusal's number, with value 0.
 pub fn answered(number: u32) -> Reply

@@ -2,8 +2,7 @@
 use mathlib.Core.Path.{refl, sym, _∙_}
 use borrow.Author.Needs.{needs}
 use Rattle.common.proofs.TestLaws.{first-stops, first-goes-on}
-use Rattle.device.specs.Split.{spaceRows}
-use Rattle.hub.specs.Admission.{admission}
+use Rattle.hub.specs.Admission.{admission, spaceRows}
 use Rattle.words.specs.Layout.{hubOf}
 use Rattle.hub.proofs.RefusalLaws.{space-facts}
 use Rattle.hub.proofs.refusals.space_refusal.Statement.{statement}
