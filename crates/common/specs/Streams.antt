@@ -1,0 +1,29 @@
+-- Machines that are fed bytes and write bytes. Where a machine stands after a byte, and what it writes for it, is all that is known
+-- of it, so that what is shown here holds of records of any form.
+use Prim.Native.Nat.{ℕ}
+use mathlib.Core.List.{List, [], _∷_, _++_}
+
+pub record Fed (M : Type 0) : Type 0 where
+  pub machine : M
+  pub written : List ℕ
+
+abbrev pub fedTo : {M : Type 0} → M → List ℕ → Fed M
+fedTo m written = record { machine = m; written = written }
+
+-- byte after byte
+unfoldable pub fedAll : {M : Type 0} → (M → ℕ → Fed M) → M → List ℕ → Fed M
+fedAll feed m [] = fedTo m []
+fedAll feed m (b ∷ bs) =
+    fedTo (fedAll feed (feed m b .machine) bs .machine) (feed m b .written ++ fedAll feed (feed m b .machine) bs .written)
+
+-- piece after piece: each is fed where the one before left the machine
+unfoldable pub fedPieces : {M : Type 0} → (M → ℕ → Fed M) → M → List (List ℕ) → Fed M
+fedPieces feed m [] = fedTo m []
+fedPieces feed m (p ∷ ps) =
+    fedTo (fedPieces feed (fedAll feed m p .machine) ps .machine)
+    (fedAll feed m p .written ++ fedPieces feed (fedAll feed m p .machine) ps .written)
+
+-- the whole that pieces make
+unfoldable pub joined : List (List ℕ) → List ℕ
+joined [] = []
+joined (p ∷ ps) = p ++ joined ps

@@ -1,0 +1,11 @@
+pub mod CallLaws
+pub mod DeliveryLaws
+pub mod FeedLaws
+pub mod FieldLaws
+pub mod GoesLaws
+pub mod HeldLaws
+pub mod LentLaws
+pub mod OverLaws
+pub mod RecordLaws
+pub mod SetUpLaws
+pub mod StreamLaws
