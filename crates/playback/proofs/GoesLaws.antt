@@ -84,7 +84,7 @@ module _ (hub region held out : List ℕ) (p : Progress) (byte : ℕ) (lent : Le
 
   pub answered-goes : (hubAfter regionAfter outAfter : List ℕ) (next : Progress) (n : ℕ) → p .stopped ≡ false → recordLength (getD more 0 0) ≤ p .held + 1
       → ((h : List ℕ) → length h ≡ longestRecord → Goes hubAfter regionAfter h out outAfter next n
-          (after (answer (worldIn hub region (p .words) (p .bytes)) (requestOf (kindOf (take (p .held + 1) more)) (take (p .held + 1) more)))))
+      (after (answer (worldIn hub region (p .words) (p .bytes)) (requestOf (kindOf (take (p .held + 1) more)) (take (p .held + 1) more)))))
       → Goes hubAfter regionAfter more out outAfter next n (fed (playerIn hub region held p) byte)
   answered-goes hubAfter regionAfter outAfter next n e l g =
       rw (e, byte-answered (worldIn hub region (p .words) (p .bytes)) held (p .held) byte (lent .few) l) (g more (simp length-set (lent .heldLength)))

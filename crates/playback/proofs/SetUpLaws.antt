@@ -72,7 +72,7 @@ module _ (hub region held out outAfter : List ℕ) (s : Settings) (w : World) (n
       → length hubAfter ≡ words → length regionAfter ≡ bytes
       → SetsUp (take words hub) hubAfter (take bytes region) regionAfter s r → Writes out outAfter (replied (r .number) (done [])) n
       → Goes (hubAfter ++ drop words hub) (regionAfter ++ drop bytes region) held out outAfter
-          (record { words = words; bytes = bytes; held = 0; stopped = false }) n (after (answer w (Request.setUp s)))
+      (record { words = words; bytes = bytes; held = 0; stopped = false }) n (after (answer w (Request.setUp s)))
   unfolding answer start
   taken-goes words bytes hubAfter regionAfter r ok ew eb lent nh nr sv ws =
       let room : length (take words hub) ≡ hubWords (s .peers) (s .vectors) = length-take-le words hub (lent .words) ∙ ew in

@@ -56,7 +56,7 @@ same-length-7 c = search needs
 
 -- src/lib.rt:167:1
 returns-2 : tie.Need-returns-2
-returns-2 c = 
+returns-2 c =
     let f = c .before .before .before .before .before .before .before .before .feed-lent .ensures in
     (f .number ∙ sym (c .before .before .before .before .before .before .before .before .before .before .before .before .before .if1 .left) ∙ c .before .before .before .before .before .before .before .before .before .before .before .before .before .before .refusal .ensures .0, (λ h. absurd (h (f .number)), λ z. f))
 

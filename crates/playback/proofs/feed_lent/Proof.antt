@@ -42,7 +42,7 @@ shared-slice-read-take-byte c = ltb-true _ _ (and-left (ltb (c .before .before .
 
 -- src/lib.rt:152:59
 sub-take-byte : tie.Need-sub-take-byte Inv-loop μ-loop
-sub-take-byte c = 
+sub-take-byte c =
     let l = c .before .before .before .before .before .loop .inv in
     let i : c .before .before .before .before .before .loop .i < length (c .before .before .before .before .before .before .before .before .before .before .before .before .args .piece .now) = ltb-true _ _ (and-left (ltb (c .before .before .before .before .before .loop .i) (length (c .before .before .before .before .before .before .before .before .before .before .before .before .args .piece .now))) (leb (c .before .before .before .before .before .loop .at) (length (c .before .before .before .before .before .before .before .before .before .before .before .before .args .out .now) - c .before .before .before .before .before .before .longest-answer .result)) (c .before .before .before .before .loop-test .taken)) in
     let at : c .before .before .before .before .before .loop .at ≤ length (c .before .before .before .before .before .before .before .before .before .before .before .before .args .out .now) - c .before .before .before .before .before .before .longest-answer .result = leb-true _ _ (and-right (ltb (c .before .before .before .before .before .loop .i) (length (c .before .before .before .before .before .before .before .before .before .before .before .before .args .piece .now))) (leb (c .before .before .before .before .before .loop .at) (length (c .before .before .before .before .before .before .before .before .before .before .before .before .args .out .now) - c .before .before .before .before .before .before .longest-answer .result)) (c .before .before .before .before .loop-test .taken)) in
@@ -53,7 +53,7 @@ sub-take-byte c =
 
 -- src/lib.rt:152:59
 part-take-byte-start : tie.Need-part-take-byte-start Inv-loop μ-loop
-part-take-byte-start c = 
+part-take-byte-start c =
     let l = c .before .before .before .before .before .loop .inv in
     let i : c .before .before .before .before .before .loop .i < length (c .before .before .before .before .before .before .before .before .before .before .before .before .args .piece .now) = ltb-true _ _ (and-left (ltb (c .before .before .before .before .before .loop .i) (length (c .before .before .before .before .before .before .before .before .before .before .before .before .args .piece .now))) (leb (c .before .before .before .before .before .loop .at) (length (c .before .before .before .before .before .before .before .before .before .before .before .before .args .out .now) - c .before .before .before .before .before .before .longest-answer .result)) (c .before .before .before .before .loop-test .taken)) in
     let at : c .before .before .before .before .before .loop .at ≤ length (c .before .before .before .before .before .before .before .before .before .before .before .before .args .out .now) - c .before .before .before .before .before .before .longest-answer .result = leb-true _ _ (and-right (ltb (c .before .before .before .before .before .loop .i) (length (c .before .before .before .before .before .before .before .before .before .before .before .before .args .piece .now))) (leb (c .before .before .before .before .before .loop .at) (length (c .before .before .before .before .before .before .before .before .before .before .before .before .args .out .now) - c .before .before .before .before .before .before .longest-answer .result)) (c .before .before .before .before .loop-test .taken)) in
@@ -68,7 +68,7 @@ part-take-byte-end c = search needs
 
 -- src/lib.rt:152:13
 take-byte-requires : tie.Need-take-byte-requires Inv-loop μ-loop
-take-byte-requires c κs = 
+take-byte-requires c κs =
     let l = c .before .before .before .before .before .before .loop .inv in
     let i : c .before .before .before .before .before .before .loop .i < length (c .before .before .before .before .before .before .before .before .before .before .before .before .before .args .piece .now) = ltb-true _ _ (and-left (ltb (c .before .before .before .before .before .before .loop .i) (length (c .before .before .before .before .before .before .before .before .before .before .before .before .before .args .piece .now))) (leb (c .before .before .before .before .before .before .loop .at) (length (c .before .before .before .before .before .before .before .before .before .before .before .before .before .args .out .now) - c .before .before .before .before .before .before .before .longest-answer .result)) (c .before .before .before .before .before .loop-test .taken)) in
     let at : c .before .before .before .before .before .before .loop .at ≤ length (c .before .before .before .before .before .before .before .before .before .before .before .before .before .args .out .now) - c .before .before .before .before .before .before .before .longest-answer .result = leb-true _ _ (and-right (ltb (c .before .before .before .before .before .before .loop .i) (length (c .before .before .before .before .before .before .before .before .before .before .before .before .before .args .piece .now))) (leb (c .before .before .before .before .before .before .loop .at) (length (c .before .before .before .before .before .before .before .before .before .before .before .before .before .args .out .now) - c .before .before .before .before .before .before .before .longest-answer .result)) (c .before .before .before .before .before .loop-test .taken)) in
@@ -79,7 +79,7 @@ take-byte-requires c κs =
 
 -- src/lib.rt:154:9
 add-at : tie.Need-add-at Inv-loop μ-loop
-add-at c = 
+add-at c =
     let l = c .before .before .before .before .before .before .before .before .before .before .before .before .before .before .before .before .before .loop .inv in
     let i : c .before .before .before .before .before .before .before .before .before .before .before .before .before .before .before .before .before .loop .i < length (c .before .before .before .before .before .before .before .before .before .before .before .before .before .before .before .before .before .before .before .before .before .before .before .before .args .piece .now) = ltb-true _ _ (and-left (ltb (c .before .before .before .before .before .before .before .before .before .before .before .before .before .before .before .before .before .loop .i) (length (c .before .before .before .before .before .before .before .before .before .before .before .before .before .before .before .before .before .before .before .before .before .before .before .before .args .piece .now))) (leb (c .before .before .before .before .before .before .before .before .before .before .before .before .before .before .before .before .before .loop .at) (length (c .before .before .before .before .before .before .before .before .before .before .before .before .before .before .before .before .before .before .before .before .before .before .before .before .args .out .now) - c .before .before .before .before .before .before .before .before .before .before .before .before .before .before .before .before .before .before .longest-answer .result)) (c .before .before .before .before .before .before .before .before .before .before .before .before .before .before .before .before .loop-test .taken)) in
     let at : c .before .before .before .before .before .before .before .before .before .before .before .before .before .before .before .before .before .loop .at ≤ length (c .before .before .before .before .before .before .before .before .before .before .before .before .before .before .before .before .before .before .before .before .before .before .before .before .args .out .now) - c .before .before .before .before .before .before .before .before .before .before .before .before .before .before .before .before .before .before .longest-answer .result = leb-true _ _ (and-right (ltb (c .before .before .before .before .before .before .before .before .before .before .before .before .before .before .before .before .before .loop .i) (length (c .before .before .before .before .before .before .before .before .before .before .before .before .before .before .before .before .before .before .before .before .before .before .before .before .args .piece .now))) (leb (c .before .before .before .before .before .before .before .before .before .before .before .before .before .before .before .before .before .loop .at) (length (c .before .before .before .before .before .before .before .before .before .before .before .before .before .before .before .before .before .before .before .before .before .before .before .before .args .out .now) - c .before .before .before .before .before .before .before .before .before .before .before .before .before .before .before .before .before .before .longest-answer .result)) (c .before .before .before .before .before .before .before .before .before .before .before .before .before .before .before .before .loop-test .taken)) in
@@ -91,7 +91,7 @@ add-at c =
 
 -- src/lib.rt:155:9
 add-i : tie.Need-add-i Inv-loop μ-loop
-add-i c = 
+add-i c =
     let l = c .before .before .before .before .before .before .before .before .before .before .before .before .before .before .before .before .before .loop .inv in
     let i : c .before .before .before .before .before .before .before .before .before .before .before .before .before .before .before .before .before .loop .i < length (c .before .before .before .before .before .before .before .before .before .before .before .before .before .before .before .before .before .before .before .before .before .before .before .before .args .piece .now) = ltb-true _ _ (and-left (ltb (c .before .before .before .before .before .before .before .before .before .before .before .before .before .before .before .before .before .loop .i) (length (c .before .before .before .before .before .before .before .before .before .before .before .before .before .before .before .before .before .before .before .before .before .before .before .before .args .piece .now))) (leb (c .before .before .before .before .before .before .before .before .before .before .before .before .before .before .before .before .before .loop .at) (length (c .before .before .before .before .before .before .before .before .before .before .before .before .before .before .before .before .before .before .before .before .before .before .before .before .args .out .now) - c .before .before .before .before .before .before .before .before .before .before .before .before .before .before .before .before .before .before .longest-answer .result)) (c .before .before .before .before .before .before .before .before .before .before .before .before .before .before .before .before .loop-test .taken)) in
     let at : c .before .before .before .before .before .before .before .before .before .before .before .before .before .before .before .before .before .loop .at ≤ length (c .before .before .before .before .before .before .before .before .before .before .before .before .before .before .before .before .before .before .before .before .before .before .before .before .args .out .now) - c .before .before .before .before .before .before .before .before .before .before .before .before .before .before .before .before .before .before .longest-answer .result = leb-true _ _ (and-right (ltb (c .before .before .before .before .before .before .before .before .before .before .before .before .before .before .before .before .before .loop .i) (length (c .before .before .before .before .before .before .before .before .before .before .before .before .before .before .before .before .before .before .before .before .before .before .before .before .args .piece .now))) (leb (c .before .before .before .before .before .before .before .before .before .before .before .before .before .before .before .before .before .loop .at) (length (c .before .before .before .before .before .before .before .before .before .before .before .before .before .before .before .before .before .before .before .before .before .before .before .before .args .out .now) - c .before .before .before .before .before .before .before .before .before .before .before .before .before .before .before .before .before .before .longest-answer .result)) (c .before .before .before .before .before .before .before .before .before .before .before .before .before .before .before .before .loop-test .taken)) in
@@ -102,7 +102,7 @@ add-i c =
 
 -- src/lib.rt:151:5
 loop-less : tie.Need-loop-less Inv-loop μ-loop
-loop-less c = 
+loop-less c =
     let l = c .before .before .before .before .before .before .before .before .before .before .before .before .before .before .before .before .before .loop .inv in
     let i : c .before .before .before .before .before .before .before .before .before .before .before .before .before .before .before .before .before .loop .i < length (c .before .before .before .before .before .before .before .before .before .before .before .before .before .before .before .before .before .before .before .before .before .before .before .before .args .piece .now) = ltb-true _ _ (and-left (ltb (c .before .before .before .before .before .before .before .before .before .before .before .before .before .before .before .before .before .loop .i) (length (c .before .before .before .before .before .before .before .before .before .before .before .before .before .before .before .before .before .before .before .before .before .before .before .before .args .piece .now))) (leb (c .before .before .before .before .before .before .before .before .before .before .before .before .before .before .before .before .before .loop .at) (length (c .before .before .before .before .before .before .before .before .before .before .before .before .before .before .before .before .before .before .before .before .before .before .before .before .args .out .now) - c .before .before .before .before .before .before .before .before .before .before .before .before .before .before .before .before .before .before .longest-answer .result)) (c .before .before .before .before .before .before .before .before .before .before .before .before .before .before .before .before .loop-test .taken)) in
     let at : c .before .before .before .before .before .before .before .before .before .before .before .before .before .before .before .before .before .loop .at ≤ length (c .before .before .before .before .before .before .before .before .before .before .before .before .before .before .before .before .before .before .before .before .before .before .before .before .args .out .now) - c .before .before .before .before .before .before .before .before .before .before .before .before .before .before .before .before .before .before .longest-answer .result = leb-true _ _ (and-right (ltb (c .before .before .before .before .before .before .before .before .before .before .before .before .before .before .before .before .before .loop .i) (length (c .before .before .before .before .before .before .before .before .before .before .before .before .before .before .before .before .before .before .before .before .before .before .before .before .args .piece .now))) (leb (c .before .before .before .before .before .before .before .before .before .before .before .before .before .before .before .before .before .loop .at) (length (c .before .before .before .before .before .before .before .before .before .before .before .before .before .before .before .before .before .before .before .before .before .before .before .before .args .out .now) - c .before .before .before .before .before .before .before .before .before .before .before .before .before .before .before .before .before .before .longest-answer .result)) (c .before .before .before .before .before .before .before .before .before .before .before .before .before .before .before .before .loop-test .taken)) in
@@ -113,7 +113,7 @@ loop-less c =
 
 -- src/lib.rt:151:5
 loop-again : tie.Need-loop-again Inv-loop μ-loop
-loop-again c = 
+loop-again c =
     let l = c .before .before .before .before .before .before .before .before .before .before .before .before .before .before .before .before .before .loop .inv in
     let i : c .before .before .before .before .before .before .before .before .before .before .before .before .before .before .before .before .before .loop .i < length (c .before .before .before .before .before .before .before .before .before .before .before .before .before .before .before .before .before .before .before .before .before .before .before .before .args .piece .now) = ltb-true _ _ (and-left (ltb (c .before .before .before .before .before .before .before .before .before .before .before .before .before .before .before .before .before .loop .i) (length (c .before .before .before .before .before .before .before .before .before .before .before .before .before .before .before .before .before .before .before .before .before .before .before .before .args .piece .now))) (leb (c .before .before .before .before .before .before .before .before .before .before .before .before .before .before .before .before .before .loop .at) (length (c .before .before .before .before .before .before .before .before .before .before .before .before .before .before .before .before .before .before .before .before .before .before .before .before .args .out .now) - c .before .before .before .before .before .before .before .before .before .before .before .before .before .before .before .before .before .before .longest-answer .result)) (c .before .before .before .before .before .before .before .before .before .before .before .before .before .before .before .before .loop-test .taken)) in
     let at : c .before .before .before .before .before .before .before .before .before .before .before .before .before .before .before .before .before .loop .at ≤ length (c .before .before .before .before .before .before .before .before .before .before .before .before .before .before .before .before .before .before .before .before .before .before .before .before .args .out .now) - c .before .before .before .before .before .before .before .before .before .before .before .before .before .before .before .before .before .before .longest-answer .result = leb-true _ _ (and-right (ltb (c .before .before .before .before .before .before .before .before .before .before .before .before .before .before .before .before .before .loop .i) (length (c .before .before .before .before .before .before .before .before .before .before .before .before .before .before .before .before .before .before .before .before .before .before .before .before .args .piece .now))) (leb (c .before .before .before .before .before .before .before .before .before .before .before .before .before .before .before .before .before .loop .at) (length (c .before .before .before .before .before .before .before .before .before .before .before .before .before .before .before .before .before .before .before .before .before .before .before .before .args .out .now) - c .before .before .before .before .before .before .before .before .before .before .before .before .before .before .before .before .before .before .longest-answer .result)) (c .before .before .before .before .before .before .before .before .before .before .before .before .before .before .before .before .loop-test .taken)) in
@@ -140,7 +140,7 @@ same-length-4 c = same-room (playerIn (c .before .before .before .before .before
 
 -- src/lib.rt:135:1
 returns : tie.Need-returns Inv-loop μ-loop
-returns c = 
+returns c =
     let last : length (c .before .before .before .before .before .before .before .before .args .out .now) - c .before .before .longest-answer .result ≡ length (c .before .before .before .before .before .before .before .before .args .out .now) - longest = rw (c .before .before .longest-answer .ensures) in
     record { number = refl; taken = fed-end (playerIn (c .before .before .before .before .before .before .before .before .args .hub .now) (c .before .before .before .before .before .before .before .before .args .region .now) (c .before .before .before .before .before .before .before .before .args .held .now) (c .before .before .before .before .before .before .before .before .args .progress)) (c .before .loop .hub) (c .before .loop .region) (c .before .loop .held) (c .before .before .before .before .before .before .before .before .args .piece .now) (c .before .before .before .before .before .before .before .before .args .out .now) (c .before .loop .out) (c .before .loop .p) (c .before .loop .i) (c .before .loop .at) (c .before .loop .inv) _ last (c .loop-test .left); goes = c .before .loop .inv .goes }
 

@@ -27,7 +27,7 @@ reported-requires c κs = search needs
 
 -- src/lib.rt:192:9
 returns : tie.Need-returns
-returns c = 
+returns c =
     rw (c .reported .ensures)
     (record { number = c .before .before .refusal .ensures .0; progress = refl; taken = refl; written = rw (ne-eqb _ _ (c .before .if1 .taken)) (record { bytes = sym (nothing-over _); count = refl; fits = omega arith }) })
 
@@ -37,7 +37,7 @@ reported-requires-2 c κs = search needs
 
 -- src/lib.rt:196:9
 returns-2 : tie.Need-returns-2
-returns-2 c = 
+returns-2 c =
     let a = c .before .before .before .before .before .before .before .before .before .before .args in
     let e : inside (playerIn (a .hub .now) (a .region .now) (a .held .now) (a .progress)) ≡ false = inside-is (a .hub .now) (a .region .now) (a .held .now) (a .progress) (c .before .before .before .before .before .refusal .ensures .1 (c .before .before .before .before .if1 .left) .0) ∙ not-true _ (c .before .if2 .taken) in
     rw (c .reported2 .ensures)
@@ -57,7 +57,7 @@ same-length c = search needs
 
 -- src/lib.rt:187:1
 returns-3 : tie.Need-returns-3
-returns-3 c = 
+returns-3 c =
     let a = c .before .before .before .before .before .before .before .before .before .before .args in
     let r = c .before .before .before .before .before .refusal .ensures .1 (c .before .before .before .before .if1 .left) in
     let some : 1 ≤ length (a .out .now) = omega (arith, r .1) in

@@ -22,7 +22,7 @@ lent-requires c κs = search needs
 
 -- src/lib.rt:85:9
 returns : tie.Need-returns
-returns c = 
+returns c =
     let a = c .before .before .before .before .before .args in
     let e : isLent (a .hub .now) (a .region .now) (a .held .now) (a .p) ≡ false = sym (c .before .lent .ensures) ∙ not-true _ (c .if1 .taken) in
     (not-lent (a .hub .now) (a .region .now) (a .held .now) (a .p) (a .room) e, λ z. absurd (omega arith))
@@ -33,7 +33,7 @@ longest-answer-requires c κs = search needs
 
 -- src/lib.rt:88:9
 returns-2 : tie.Need-returns-2
-returns-2 c = 
+returns-2 c =
     let a = c .before .before .before .before .before .before .before .args in
     let e : isLent (a .hub .now) (a .region .now) (a .held .now) (a .p) ≡ true = sym (c .before .before .before .lent .ensures) ∙ not-false _ (c .before .before .if1 .left) in
     let l : ltb (a .room) longest ≡ true = lt-ltb _ _ (rw (c .before .longest-answer .ensures) at (c .if2 .taken)) in
@@ -41,7 +41,7 @@ returns-2 c =
 
 -- src/lib.rt:79:1
 returns-3 : tie.Need-returns-3
-returns-3 c = 
+returns-3 c =
     let a = c .before .before .before .before .before .before .before .args in
     let e : isLent (a .hub .now) (a .region .now) (a .held .now) (a .p) ≡ true = sym (c .before .before .before .lent .ensures) ∙ not-false _ (c .before .before .if1 .left) in
     let l : longest ≤ a .room = rw (c .before .longest-answer .ensures) at (c .if2 .left) in

@@ -52,7 +52,7 @@ slice-aggregate-answer c = sym (length-take-le _ _ (simp length-set (omega (arit
 
 -- src/lib.rt:120:5
 answer-requires : tie.Need-answer-requires
-answer-requires c κs = 
+answer-requires c κs =
     let l = c .before .before .before .before .before .before .before .before .before .before .before .before .pre .0 in
     let w = rw (c .before .before .before .before .before .length .ensures) at (c .before .before .before .before .if2 .left) in
     ((l .hubLength, l .regionLength), ((l .words, l .bytes), (record-whole nowhere (c .before .before .before .before .before .before .before .before .before .before .before .before .args .held .now) (c .before .before .before .before .before .before .before .before .before .before .before .before .args .p .held) (c .before .before .before .before .before .before .before .before .before .before .before .before .args .byte) (l .few) w, c .before .before .before .before .before .before .before .before .before .before .before .before .pre .1)))

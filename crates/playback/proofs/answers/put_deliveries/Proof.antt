@@ -77,7 +77,7 @@ loop-less c = omega arith
 
 -- src/answers.rt:91:5
 loop-again : tie.Need-loop-again Inv-loop μ-loop
-loop-again c = 
+loop-again c =
     let l = c .before .before .before .before .before .before .loop in
     let out₀ = c .before .before .before .before .before .before .before .before .before .before .before .args .out .now in
     let targets = c .before .before .before .before .before .before .before .before .before .before .before .args .list .targets in
@@ -97,7 +97,7 @@ same-length c = c .before .loop .inv .5
 -- src/answers.rt:82:1
 returns : tie.Need-returns Inv-loop μ-loop
 unfolding listed
-returns c = 
+returns c =
     let e : c .before .loop .i ≡ c .before .before .before .before .before .before .args .list .count = omega arith in
     c .before .loop .inv .6 ∙ rw e
 

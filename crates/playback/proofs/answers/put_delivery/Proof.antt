@@ -39,7 +39,7 @@ same-length c = search needs
 -- src/answers.rt:74:1
 returns : tie.Need-returns
 unfolding delivered
-returns c = 
+returns c =
     let a = c .before .before .before .before .before .before .before .before .before .args in
     over-then 1 (0x83 ∷ []) (a .out .now) (refl) (omega arith) _ (parts (a .d)) _ (c .before .before .before .before .before .before .put-one .ensures) (c .before .before .put-parts .ensures)
 

@@ -36,7 +36,7 @@ same-length c = search needs
 
 -- src/answers.rt:50:1
 returns : tie.Need-returns
-returns c = 
+returns c =
     let a = c .before .before .before .before .before .before .before .before .before .args in
     over-then 2 (bytes 2 (a .target)) (a .out .now) (length-bytes 2 _) (omega arith) _ (bytes 2 (a .vector)) _ (c .before .before .before .before .before .before .put-two .ensures) (c .before .before .put-two2 .ensures)
 

@@ -37,7 +37,7 @@ same-length c = search needs
 
 -- src/answers.rt:58:1
 returns : tie.Need-returns
-returns c = 
+returns c =
     let a = c .before .before .before .before .before .before .before .before .before .args in
     over-then 8 (bytes 8 (a .address)) (a .out .now) (length-bytes 8 _) (omega arith) _ (bytes 4 (a .payload)) _ (c .before .before .before .before .before .before .put-eight .ensures) (c .before .before .put-four .ensures)
 

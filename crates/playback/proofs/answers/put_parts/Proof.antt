@@ -39,7 +39,7 @@ same-length c = search needs
 
 -- src/answers.rt:66:1
 returns : tie.Need-returns
-returns c = 
+returns c =
     let a = c .before .before .before .before .before .before .before .before .before .args in
     over-then 4 (bytes 2 (a .d .target .0) ++ bytes 2 (a .d .vector .0)) (a .out .now) (simp (length-append, length-bytes)) (omega arith) _ (bytes 8 (a .d .address) ++ bytes 4 (a .d .payload)) _ (c .before .before .before .before .before .before .put-ids .ensures) (c .before .before .put-message .ensures)
 

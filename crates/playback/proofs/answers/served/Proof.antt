@@ -69,7 +69,7 @@ same-length-2 c = search needs
 -- src/answers.rt:99:1
 returns-2 : tie.Need-returns-2
 unfolding replied
-returns-2 c = 
+returns-2 c =
     let a = c .before .before .before .before .before .before .before .before .before .before .before .before .args in
     let ds = listed (hubOf (a .hub .now)) (a .list) in
     let all = over-then 1 (0x81 ∷ []) (a .out .now) refl (omega arith) _ (allDelivered ds) _ (c .before .before .before .before .before .before .before .put-one .ensures) (c .before .before .before .put-deliveries .ensures) in

@@ -58,7 +58,7 @@ same-length-2 c = search needs
 -- src/answers.rt:37:1
 returns-2 : tie.Need-returns-2
 unfolding replied
-returns-2 c = 
+returns-2 c =
     let a = c .before .before .before .before .before .before .before .before .before .before .args in
     let all = over-then 1 (0x82 ∷ []) (a .out .now) refl (omega arith) _ (bytes 4 (a .x)) _ (c .before .before .before .before .before .before .put-one .ensures) (c .before .before .put-four .ensures) in
     let n : 5 ≡ length (valued (a .x)) = ap suc (sym (length-bytes 4 (a .x))) in

@@ -43,7 +43,7 @@ same-length c = search needs
 -- src/calls.rt:72:1
 returns : tie.Need-returns
 unfolding readsOnly
-returns c = 
+returns c =
     let a = c .before .before .before .before .before .before .before .before .before .before .before .args in
     λ region. rw (← (c .before .before .before .before .before .before .before .id .ensures), ← (c .before .before .before .before .before .before .offset .ensures), ← (c .before .before .before .before .before .width .ensures)) (reads-answer (a .hub .now) region (a .out .now) _ (call (c .before .before .before .before .before .before .before .id .result) (Act.configurationRead (c .before .before .before .before .before .before .offset .result) (c .before .before .before .before .before .width .result))) _ _ refl (c .before .before .before .before .configuration-read .ensures) (c .before .before .value .ensures))
 

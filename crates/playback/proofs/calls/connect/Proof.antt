@@ -38,7 +38,7 @@ same-length-2 c = search needs
 -- src/calls.rt:44:1
 returns : tie.Need-returns
 unfolding lentTo mayRing
-returns c = 
+returns c =
     let a = c .before .before .before .before .before .before .before .before .before .before .before .before .args in
     λ region. rw (← (c .before .before .before .before .before .before .before .id .ensures)) (changes-answer (a .hub .now) region (a .out .now) _ (call (c .before .before .before .before .before .before .before .id .result) (Act.connect)) _ _ _ refl refl (c .before .before .before .before .before .before .connect .ensures) (c .before .before .done .ensures))
 

@@ -27,7 +27,7 @@ disconnect-requires c κs = search needs
 
 -- src/calls.rt:59:5
 served-requires : tie.Need-served-requires
-served-requires c κs = 
+served-requires c κs =
     let a = c .before .before .before .before .before .before .before .before .before .before .before .before .before .before .before .before .before .args in
     let s = can-hand-out (a .hub .now) _ (a .region .now) _ (c .before .before .before .before .before .before .before .before .before .id .result) Act.disconnect (c .before .before .before .before .before .before .before .before .disconnect .result) (c .before .before .before .before .before .before .before .before .before .before .max-peers .result) disconnect-room (c .before .before .before .before .before .before .before .before .disconnect .ensures) in
     (s .0, rw (← (c .before .before .before .before .before .before .before .before .before .before .max-peers .ensures)) (s .1), omega arith)
@@ -46,7 +46,7 @@ same-length-3 c = search needs
 
 -- src/calls.rt:52:1
 returns : tie.Need-returns
-returns c = 
+returns c =
     let a = c .before .before .before .before .before .before .before .before .before .before .before .before .before .before .before .before .before .before .before .before .args in
     rw (← (c .before .before .before .before .before .before .before .before .before .before .before .before .id .ensures), ← (c .before .before .before .before .before .before .before .before .before .before .before .before .before .max-peers .ensures)) (served-answer (a .hub .now) (a .region .now) (a .out .now) _ (call (c .before .before .before .before .before .before .before .before .before .before .before .before .id .result) (Act.disconnect (c .before .before .before .before .before .before .before .before .before .before .before .before .before .max-peers .result))) _ _ _ _ (c .before .before .before .before .before .before .before .before .before .before .before .disconnect .ensures) (c .before .before .served .ensures))
 

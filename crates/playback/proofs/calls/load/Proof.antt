@@ -52,7 +52,7 @@ same-length c = search needs
 -- src/calls.rt:132:1
 returns : tie.Need-returns
 unfolding readsOnly
-returns c = 
+returns c =
     let a = c .before .before .before .before .before .before .before .before .before .before .before .before .before .before .args in
     let buffer = c .before .before .before .before .before .before .load .last .1 .1 .1 .1 .0 in
     let one : length buffer ≡ 1 = c .before .before .before .before .before .before .load .kept .1 .1 .1 .1 .0 in

@@ -38,7 +38,7 @@ same-length c = search needs
 -- src/calls.rt:109:1
 returns : tie.Need-returns
 unfolding readsOnly
-returns c = 
+returns c =
     let a = c .before .before .before .before .before .before .before .before .before .before .args in
     λ region. rw (← (c .before .before .before .before .before .before .id .ensures), ← (c .before .before .before .before .before .offset .ensures)) (reads-answer (a .hub .now) region (a .out .now) _ (call (c .before .before .before .before .before .before .id .result) (Act.msixRead (c .before .before .before .before .before .offset .result) 4)) _ _ refl (c .before .before .before .before .msix-read .ensures) (c .before .before .value .ensures))
 

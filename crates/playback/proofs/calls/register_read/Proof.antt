@@ -38,7 +38,7 @@ same-length c = search needs
 -- src/calls.rt:89:1
 returns : tie.Need-returns
 unfolding readsOnly
-returns c = 
+returns c =
     let a = c .before .before .before .before .before .before .before .before .before .before .args in
     λ region. rw (← (c .before .before .before .before .before .before .id .ensures), ← (c .before .before .before .before .before .offset .ensures)) (reads-answer (a .hub .now) region (a .out .now) _ (call (c .before .before .before .before .before .before .id .result) (Act.registerRead (c .before .before .before .before .before .offset .result) 4)) _ _ refl (c .before .before .before .before .register-read .ensures) (c .before .before .value .ensures))
 

@@ -37,7 +37,7 @@ register-write-requires c κs = search needs
 
 -- src/calls.rt:106:5
 served-requires : tie.Need-served-requires
-served-requires c κs = 
+served-requires c κs =
     let a = c .before .before .before .before .before .before .before .before .before .before .before .before .before .before .before .before .before .before .before .args in
     let s = can-hand-out (a .hub .now) _ (a .region .now) _ (c .before .before .before .before .before .before .before .before .before .before .id .result) (λ k. Act.registerWrite k (c .before .before .before .before .before .before .before .before .before .offset .result) 4 (c .before .before .before .before .before .before .before .before .before .before .before .before .before .before .four .result)) (c .before .before .before .before .before .before .before .before .register-write .result) (c .before .before .before .before .before .before .before .before .before .before .before .before .before .max-peers .result) (register-write-room (c .before .before .before .before .before .before .before .before .before .offset .result) 4 (c .before .before .before .before .before .before .before .before .before .before .before .before .before .before .four .result)) (c .before .before .before .before .before .before .before .before .register-write .ensures) in
     (s .0, rw (← (c .before .before .before .before .before .before .before .before .before .before .before .before .before .max-peers .ensures)) (s .1), omega arith)
@@ -56,7 +56,7 @@ same-length-3 c = search needs
 
 -- src/calls.rt:97:1
 returns : tie.Need-returns
-returns c = 
+returns c =
     let a = c .before .before .before .before .before .before .before .before .before .before .before .before .before .before .before .before .before .before .before .before .before .before .args in
     rw (← (c .before .before .before .before .before .before .before .before .before .before .before .before .before .id .ensures), ← (c .before .before .before .before .before .before .before .before .before .before .before .before .before .before .before .before .max-peers .ensures), ← (c .before .before .before .before .before .before .before .before .before .before .before .before .offset .ensures), ← (c .before .before .before .before .before .before .before .before .before .before .before .before .before .before .before .before .before .four .ensures)) (served-answer (a .hub .now) (a .region .now) (a .out .now) _ (call (c .before .before .before .before .before .before .before .before .before .before .before .before .before .id .result) (Act.registerWrite (c .before .before .before .before .before .before .before .before .before .before .before .before .before .before .before .before .max-peers .result) (c .before .before .before .before .before .before .before .before .before .before .before .before .offset .result) 4 (c .before .before .before .before .before .before .before .before .before .before .before .before .before .before .before .before .before .four .result))) _ _ _ _ (c .before .before .before .before .before .before .before .before .before .before .before .register-write .ensures) (c .before .before .served .ensures))
 

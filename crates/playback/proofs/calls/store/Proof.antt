@@ -60,7 +60,7 @@ same-length-2 c = search needs
 -- src/calls.rt:135:1
 returns : tie.Need-returns
 unfolding mayRing
-returns c = 
+returns c =
     let a = c .before .before .before .before .before .before .before .before .before .before .before .before .before .before .before .args in
     let one : take (8 - 7) (drop 7 (a .fields .now)) ≡ field 7 1 (a .fields .now) ∷ [] = one-part 7 (a .fields .now) (omega arith) in
     rw (← (c .before .before .before .before .before .before .before .before .before .id .ensures), ← (c .before .before .before .before .before .before .before .before .shared-offset .ensures), ← one) (stores-answer (a .hub .now) (a .region .now) (a .out .now) _ (call (c .before .before .before .before .before .before .before .before .before .id .result) (Act.store (c .before .before .before .before .before .before .before .before .shared-offset .result) _)) _ _ _ refl (c .before .before .before .before .before .before .store .ensures) (c .before .before .done .ensures))

@@ -39,7 +39,7 @@ add-result c = search needs
 
 -- src/numbers.rt:23:1
 returns : tie.Need-returns
-returns c = 
+returns c =
     let a = c .before .before .before .args in
     rw (c .before .four .ensures, c .four2 .ensures) (sym (field-parts (a .at) 4 4 (a .fields .now) (omega arith)))
 

@@ -39,7 +39,7 @@ add-result c = search needs
 
 -- src/numbers.rt:16:1
 returns : tie.Need-returns
-returns c = 
+returns c =
     let a = c .before .before .before .args in
     rw (c .before .two .ensures, c .two2 .ensures) (sym (field-parts (a .at) 2 2 (a .fields .now) (omega arith)))
 

@@ -49,7 +49,7 @@ same-length c = search needs
 
 -- src/numbers.rt:46:1
 returns : tie.Need-returns
-returns c = 
+returns c =
     let a = c .before .before .before .before .before .before .before .before .before .args in
     over-then 4 (bytes 4 (a .x % 4294967296)) (a .out .now) (length-bytes 4 _) (omega arith) _ (bytes 4 (a .x / 4294967296 % 4294967296)) _ (c .before .before .before .before .before .before .put-four .ensures) (c .before .before .put-four2 .ensures)
     ∙ ap (λ (l : List ℕ). over l (a .out .now)) (bytes-split 4 4 (a .x))

@@ -49,7 +49,7 @@ same-length c = search needs
 
 -- src/numbers.rt:38:1
 returns : tie.Need-returns
-returns c = 
+returns c =
     let a = c .before .before .before .before .before .before .before .before .before .args in
     over-then 2 (bytes 2 (a .x % 65536)) (a .out .now) (length-bytes 2 _) (omega arith) _ (bytes 2 (a .x / 65536 % 65536)) _ (c .before .before .before .before .before .before .put-two .ensures) (c .before .before .put-two2 .ensures)
     ∙ ap (λ (l : List ℕ). over l (a .out .now)) (bytes-split 2 2 (a .x))

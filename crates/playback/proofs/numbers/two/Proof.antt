@@ -41,7 +41,7 @@ add-result-2 c = omega (arith, c .before .shared-slice-known .given (c .before .
 
 -- src/numbers.rt:9:1
 returns : tie.Need-returns
-returns c = 
+returns c =
     let a = c .before .before .args in
     let low : field (a .at) 1 (a .fields .now) ≡ getD (a .fields .now) (a .at) 0 = field-one (a .at) (a .fields .now) (omega arith) in
     let high : field (a .at + 1) 1 (a .fields .now) ≡ getD (a .fields .now) (a .at + 1) 0 = field-one (a .at + 1) (a .fields .now) (omega arith) in

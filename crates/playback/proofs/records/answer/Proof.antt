@@ -42,7 +42,7 @@ same-length-3 c = search needs
 -- src/records.rt:147:9
 returns : tie.Need-returns
 unfolding kindOf requestOf
-returns c = 
+returns c =
     let a = c .before .before .before .before .before .before .before .before .before .before .before .before .before .before .before .before .args in
     λ held n. rw (c .before .before .before .before .before .before .before .before .before .before .if1 .taken) (c .before .before .before .before .before .before .set-up .ensures held n (worldIn (a .hub .now) (a .region .now) (a .words) (a .bytes)))
 
@@ -61,7 +61,7 @@ same-length-4 c = search needs
 -- src/records.rt:152:9
 returns-2 : tie.Need-returns-2
 unfolding kindOf
-returns-2 c = 
+returns-2 c =
     let a = c .before .before .before .before .before .before .before .before .before .before .before .before .args in
     λ held n. rw (c .progress .ensures, unknown-request (getD (a .fields .now) 0 0) (a .fields .now) (c .before .before .before .before .before .if2 .taken))
     (unknown-goes (a .hub .now) (a .region .now) held (a .out .now) _ (a .words) (a .bytes) _ (record { hubLength = c .before .before .before .before .before .before .before .before .before .before .before .before .pre .0 .0; regionLength = c .before .before .before .before .before .before .before .before .before .before .before .before .pre .0 .1; heldLength = n; words = c .before .before .before .before .before .before .before .before .before .before .before .before .pre .1 .0 .0; bytes = c .before .before .before .before .before .before .before .before .before .before .before .before .pre .1 .0 .1; few = omega arith }) (record { bytes = c .before .before .before .put-one .ensures; count = refl; fits = omega (arith, maxPeers-pos, c .before .before .before .before .before .before .before .before .before .before .before .before .pre) }))
@@ -106,7 +106,7 @@ same-length-7 c = search needs
 -- src/records.rt:132:1
 returns-3 : tie.Need-returns-3
 unfolding kindOf
-returns-3 c = 
+returns-3 c =
     let a = c .before .before .before .before .before .before .before .before .before .before .before .before .before .before .before .before .before .before .args in
     let on = known-goes-on (worldIn (a .hub .now) (a .region .now) (a .words) (a .bytes)) (getD (a .fields .now) 0 0) (a .fields .now) (omega (arith, c .before .before .before .before .before .before .before .before .before .before .before .if2 .left)) in
     λ held n. rw (c .progress2 .ensures)

@@ -79,7 +79,7 @@ load-requires c κs = (rw (c .before .before .before .match .keys10) at (c .befo
 -- src/records.rt:127:14
 store-requires : tie.Need-store-requires
 unfolding kindOf recordLength
-store-requires c κs = 
+store-requires c κs =
     let k : getD (c .before .before .before .before .before .before .before .before .before .args .fields .now) 0 0 ≡ 11 = eleven _ (above 9 _ (above 8 _ (above 7 _ (above 6 _ (above 5 _ (above 4 _ (above 3 _ (above 2 _ (above 1 _ (above 0 _ (c .before .before .before .before .before .before .before .before .before .pre .0 .0) (c .before .before .before .match .rest .0 .0 .0 .0 .0 .0 .0 .0 .0 .1)) (c .before .before .before .match .rest .0 .0 .0 .0 .0 .0 .0 .0 .1)) (c .before .before .before .match .rest .0 .0 .0 .0 .0 .0 .0 .1)) (c .before .before .before .match .rest .0 .0 .0 .0 .0 .0 .1)) (c .before .before .before .match .rest .0 .0 .0 .0 .0 .1)) (c .before .before .before .match .rest .0 .0 .0 .0 .1)) (c .before .before .before .match .rest .0 .0 .0 .1)) (c .before .before .before .match .rest .0 .0 .1)) (c .before .before .before .match .rest .0 .1)) (c .before .before .before .match .rest .1)) (c .before .before .before .before .before .before .before .before .before .pre .0 .1) in
     (rw k at (c .before .before .before .before .before .before .before .before .before .pre .1 .0), c .before .before .before .before .before .before .before .before .before .pre .1 .1)
 
@@ -244,7 +244,7 @@ same-length-27 c = search needs
 -- src/records.rt:110:1
 returns-11 : tie.Need-returns-11
 unfolding kindOf requestOf
-returns-11 c = 
+returns-11 c =
     let k : getD (c .before .before .before .before .before .before .before .before .before .before .before .before .before .before .args .fields .now) 0 0 ≡ 11 = eleven _ (above 9 _ (above 8 _ (above 7 _ (above 6 _ (above 5 _ (above 4 _ (above 3 _ (above 2 _ (above 1 _ (above 0 _ (c .before .before .before .before .before .before .before .before .before .before .before .before .before .before .pre .0 .0) (c .before .before .before .before .before .before .before .before .match .rest .0 .0 .0 .0 .0 .0 .0 .0 .0 .1)) (c .before .before .before .before .before .before .before .before .match .rest .0 .0 .0 .0 .0 .0 .0 .0 .1)) (c .before .before .before .before .before .before .before .before .match .rest .0 .0 .0 .0 .0 .0 .0 .1)) (c .before .before .before .before .before .before .before .before .match .rest .0 .0 .0 .0 .0 .0 .1)) (c .before .before .before .before .before .before .before .before .match .rest .0 .0 .0 .0 .0 .1)) (c .before .before .before .before .before .before .before .before .match .rest .0 .0 .0 .0 .1)) (c .before .before .before .before .before .before .before .before .match .rest .0 .0 .0 .1)) (c .before .before .before .before .before .before .before .before .match .rest .0 .0 .1)) (c .before .before .before .before .before .before .before .before .match .rest .0 .1)) (c .before .before .before .before .before .before .before .before .match .rest .1)) (c .before .before .before .before .before .before .before .before .before .before .before .before .before .before .pre .0 .1) in
     rw k (c .before .before .before .before .store .ensures)
 

@@ -30,7 +30,7 @@ go s ok false e = (rw (too-large s e), (λ f. never f, λ f. too-large s e))
 
 -- src/records.rt:61:9
 returns : tie.Need-returns
-returns c = 
+returns c =
     let n : setUpNumber (c .before .before .args .s) ≡ 1 = not-accepted (c .before .before .args .s) (sym (c .before .accepted .ensures) ∙ not-true _ (c .if1 .taken)) in
     (rw n, (λ e. never e, λ e. n))
 
@@ -40,7 +40,7 @@ total-requires c κs = sym (c .before .accepted .ensures) ∙ not-false _ (c .if
 
 -- src/records.rt:54:1
 returns-2 : tie.Need-returns-2
-returns-2 c = 
+returns-2 c =
     let s = c .before .before .before .args .s in
     let ok : accepted s ≡ true = sym (c .before .before .accepted .ensures) ∙ not-false _ (c .before .if1 .left) in
     rw (c .total .ensures) (go s ok (leb (total s) maxTotal) refl)

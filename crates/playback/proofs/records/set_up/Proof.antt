@@ -50,7 +50,7 @@ same-length c = search needs
 -- src/records.rt:87:9
 returns : tie.Need-returns
 unfolding without
-returns c = 
+returns c =
     let a = c .before .before .before .before .before .before .before .before .before .before .before .before .args in
     let e : setUpNumber (settingsIn (a .fields .now)) ≡ 1 = rw (← (c .before .before .before .before .before .before .before .settings .ensures)) (c .before .before .before .before .before .before .playable .ensures .1 .1 (not-true _ (c .before .before .before .before .before .if1 .taken))) in
     λ held n w. rw (c .progress .ensures) (refused-goes (a .hub .now) (a .region .now) held (a .out .now) _ (settingsIn (a .fields .now)) w _
@@ -58,7 +58,7 @@ returns c =
 
 -- src/records.rt:89:9
 hub-words-requires : tie.Need-hub-words-requires
-hub-words-requires c κs = 
+hub-words-requires c κs =
     let f = accepted-facts (c .before .before .settings .result) (c .before .playable .ensures .1 .0 (not-false _ (c .if1 .left)) .0) in
     (f .peers, f .vectors)
 
@@ -68,27 +68,27 @@ total-requires c κs = c .before .before .playable .ensures .1 .0 (not-false _ (
 
 -- src/records.rt:92:9
 slice-relend-prefix-set-up : tie.Need-slice-relend-prefix-set-up
-slice-relend-prefix-set-up c = 
+slice-relend-prefix-set-up c =
     let f = accepted-facts (c .before .before .before .before .settings .result) (c .before .before .before .playable .ensures .1 .0 (not-false _ (c .before .before .if1 .left)) .0) in
     let words : c .before .hub-words .result ≤ length (c .before .before .before .before .before .before .before .before .before .args .hub .now) = rw (c .before .hub-words .ensures, c .before .before .before .before .before .before .before .before .before .pre .0 .0) (hub-room _ _ (f .peers) (f .vectors)) in
     words
 
 -- src/records.rt:92:9
 slice-aggregate-set-up : tie.Need-slice-aggregate-set-up
-slice-aggregate-set-up c = 
+slice-aggregate-set-up c =
     let f = accepted-facts (c .before .before .before .before .before .settings .result) (c .before .before .before .before .playable .ensures .1 .0 (not-false _ (c .before .before .before .if1 .left)) .0) in
     let words : c .before .before .hub-words .result ≤ length (c .before .before .before .before .before .before .before .before .before .before .args .hub .now) = rw (c .before .before .hub-words .ensures, c .before .before .before .before .before .before .before .before .before .before .pre .0 .0) (hub-room _ _ (f .peers) (f .vectors)) in
     sym (length-take-le (c .before .before .hub-words .result) (c .before .before .before .before .before .before .before .before .before .before .args .hub .now) words)
 
 -- src/records.rt:93:9
 slice-relend-prefix-set-up-2 : tie.Need-slice-relend-prefix-set-up-2
-slice-relend-prefix-set-up-2 c = 
+slice-relend-prefix-set-up-2 c =
     let bytes : c .before .total .result ≤ length (c .before .before .before .before .before .before .before .before .before .before .args .region .now) = omega (arith, c .before .before .before .before .playable .ensures .1 .0 (not-false _ (c .before .before .before .if1 .left)) .1, c .before .total .ensures, c .before .before .before .before .before .before .before .before .before .before .pre .0 .1) in
     bytes
 
 -- src/records.rt:93:9
 slice-aggregate-set-up-2 : tie.Need-slice-aggregate-set-up-2
-slice-aggregate-set-up-2 c = 
+slice-aggregate-set-up-2 c =
     let bytes : c .before .before .total .result ≤ length (c .before .before .before .before .before .before .before .before .before .before .before .args .region .now) = omega (arith, c .before .before .before .before .before .playable .ensures .1 .0 (not-false _ (c .before .before .before .before .if1 .left)) .1, c .before .before .total .ensures, c .before .before .before .before .before .before .before .before .before .before .before .pre .0 .1) in
     sym (length-take-le (c .before .before .total .result) (c .before .before .before .before .before .before .before .before .before .before .before .args .region .now) bytes)
 
@@ -130,7 +130,7 @@ same-length-4 c = search needs
 
 -- src/records.rt:77:1
 returns-2 : tie.Need-returns-2
-returns-2 c = 
+returns-2 c =
     let f = accepted-facts (c .before .before .before .before .before .before .before .before .before .before .before .before .before .before .before .before .before .before .before .settings .result) (c .before .before .before .before .before .before .before .before .before .before .before .before .before .before .before .before .before .before .playable .ensures .1 .0 (not-false _ (c .before .before .before .before .before .before .before .before .before .before .before .before .before .before .before .before .before .if1 .left)) .0) in
     let words : c .before .before .before .before .before .before .before .before .before .before .before .before .before .before .before .before .hub-words .result ≤ length (c .before .before .before .before .before .before .before .before .before .before .before .before .before .before .before .before .before .before .before .before .before .before .before .before .args .hub .now) = rw (c .before .before .before .before .before .before .before .before .before .before .before .before .before .before .before .before .hub-words .ensures, c .before .before .before .before .before .before .before .before .before .before .before .before .before .before .before .before .before .before .before .before .before .before .before .before .pre .0 .0) (hub-room _ _ (f .peers) (f .vectors)) in
     let bytes : c .before .before .before .before .before .before .before .before .before .before .before .before .before .before .before .total .result ≤ length (c .before .before .before .before .before .before .before .before .before .before .before .before .before .before .before .before .before .before .before .before .before .before .before .before .args .region .now) = omega (arith, c .before .before .before .before .before .before .before .before .before .before .before .before .before .before .before .before .before .before .playable .ensures .1 .0 (not-false _ (c .before .before .before .before .before .before .before .before .before .before .before .before .before .before .before .before .before .if1 .left)) .1, c .before .before .before .before .before .before .before .before .before .before .before .before .before .before .before .total .ensures, c .before .before .before .before .before .before .before .before .before .before .before .before .before .before .before .before .before .before .before .before .before .before .before .before .pre .0 .1) in
