@@ -3,7 +3,7 @@
 //! [`yardstick`] has the calls, once, over a [`state`] (an ordinary struct, or the library's words) and a [`soundness`] test;
 //! [`device`] puts the library and the yardsticks behind one trait. [`cases`] are the rows of the tables, [`measure`] times them
 //! and [`report`] prints them; [`million`] times State stores in long runs, and [`stack`] measures how deep the library's calls
-//! go.
+//! go. [`players`] play logs by the library, by a yardstick and by the model.
 
 #![deny(unsafe_code)]
 
@@ -11,6 +11,7 @@ pub mod cases;
 pub mod device;
 pub mod measure;
 pub mod million;
+pub mod players;
 pub mod report;
 pub mod rules;
 pub mod soundness;

@@ -82,29 +82,35 @@ impl Cutter {
     /// Takes bytes from the front of the piece up to the end of a record, and gives that; nothing where the piece is used up
     /// first. An unknown kind is given once, and whatever follows it is taken and gives nothing.
     pub fn next(&mut self, piece: &mut &[u8]) -> Option<Result<Placed, Fault>> {
-        while let Some((&byte, rest)) = piece.split_first().filter(|_| !self.stopped) {
-            *piece = rest;
-            self.held[self.in_held] = byte;
-            self.in_held += 1;
-            let kind = self.held[0];
-            let Some(length) = Record::length(kind) else {
-                self.stopped = true;
-                break;
-            };
-            if self.in_held == length {
-                let place = self.place;
-                let record = Record::decode(&self.held[..length])?;
-                self.place += length as u64;
-                self.in_held = 0;
-                return Some(Ok(Placed { place, record }));
-            }
-        }
-        let stops_here = self.stopped && self.in_held == 1;
         if self.stopped {
             *piece = &[];
-            self.in_held = 0;
         }
-        stops_here.then_some(Err(Fault::UnknownKind { place: self.place, kind: self.held[0] }))
+        let place = self.place;
+        let kind = *self.held[..self.in_held].first().or(piece.first())?;
+        let Some(length) = Record::length(kind) else {
+            self.stopped = true;
+            return Some(Err(Fault::UnknownKind { place, kind }));
+        };
+        let Some((bytes, rest)) = piece.split_at_checked(length - self.in_held) else {
+            self.hold(piece);
+            *piece = &[];
+            return None;
+        };
+        *piece = rest;
+        let record = if self.in_held == 0 {
+            Record::decode(bytes)
+        } else {
+            self.hold(bytes);
+            Record::decode(&self.held[..length])
+        };
+        self.place += length as u64;
+        self.in_held = 0;
+        record.map(|record| Ok(Placed { place, record }))
+    }
+
+    fn hold(&mut self, bytes: &[u8]) {
+        self.held[self.in_held..][..bytes.len()].copy_from_slice(bytes);
+        self.in_held += bytes.len();
     }
 
     /// The log ends here.

@@ -263,6 +263,27 @@ fn played(log: &[u8]) -> Vec<u8> {
     play_on_library(&[log]).unwrap()
 }
 
+/// What is noted below, but for the place.
+fn ten_notes() -> [String; 10] {
+    let no_record = "[not in the log: no record says this]";
+    let memory = "[not in the log: a player lends the right memory]";
+    let refused = |refusal: Refusal| format!("refused, {} ({refusal})", refusal.number());
+    let (width, range) = (refused(Refusal::BadWidth), refused(Refusal::OutOfRange));
+    let (region, table) = (refused(Refusal::BadRegion), refused(Refusal::ShortTable));
+    [
+        format!("peer 0 asks for the section of 4 bytes at 8192: the output section of peer 0, may store {no_record}"),
+        format!("peer 0 asks for the section of 0 bytes at 0: {width} {no_record}"),
+        format!("peer 0 stores 2 bytes at 8191: {range} {no_record}"),
+        format!("peer 0 loads 0 bytes at 0: {width} {no_record}"),
+        format!("peer 0 stores byte 4294967296 = 61h: {range} {no_record}"),
+        format!("peer 0 reads register 04h, 2 bytes (Maximum Peers): {width} {no_record}"),
+        format!("peer 0 reads configuration 04h, 256 bytes: {width} {no_record}"),
+        format!("peer 0 writes MSI-X 10000h = 1: {range} {no_record}"),
+        format!("reset peer 0: {region} {memory}"),
+        format!("peer 0 writes register 0Ch (Doorbell) = 10000h, vector 0 of peer 1: {table} {memory}"),
+    ]
+}
+
 #[test]
 fn what_a_log_cannot_hold_is_noted_in_words() {
     let (mut words, mut region, mut table) = ([0; WORDS], [0; TOTAL], [Delivery::default(); 2]);
@@ -285,25 +306,8 @@ fn what_a_log_cannot_hold_is_noted_in_words() {
     let (noted, complete) = (log.noted(), log.is_complete());
     assert_eq!((noted, complete, log.records()), (10, false, 3));
     let text: Vec<String> = log.notes().iter().map(ToString::to_string).collect();
-    let no_record = "[not in the log: no record says this]";
-    let memory = "[not in the log: a player lends the right memory]";
-    let refused = |refusal: Refusal| format!("refused, {} ({refusal})", refusal.number());
-    let (width, range) = (refused(Refusal::BadWidth), refused(Refusal::OutOfRange));
-    let (region, table) = (refused(Refusal::BadRegion), refused(Refusal::ShortTable));
-    let lines = [
-        format!("peer 0 asks for the section of 4 bytes at 8192: the output section of peer 0, may store {no_record}"),
-        format!("peer 0 asks for the section of 0 bytes at 0: {width} {no_record}"),
-        format!("peer 0 stores 2 bytes at 8191: {range} {no_record}"),
-        format!("peer 0 loads 0 bytes at 0: {width} {no_record}"),
-        format!("peer 0 stores byte 4294967296 = 61h: {range} {no_record}"),
-        format!("peer 0 reads register 04h, 2 bytes (Maximum Peers): {width} {no_record}"),
-        format!("peer 0 reads configuration 04h, 256 bytes: {width} {no_record}"),
-        format!("peer 0 writes MSI-X 10000h = 1: {range} {no_record}"),
-        format!("reset peer 0: {region} {memory}"),
-        format!("peer 0 writes register 0Ch (Doorbell) = 10000h, vector 0 of peer 1: {table} {memory}"),
-    ];
     // All of them stand behind the set-up and the first connect.
-    assert_eq!(text, lines.map(|line| format!("      42  {line}")));
+    assert_eq!(text, ten_notes().map(|line| format!("      42  {line}")));
     assert!(log.notes().iter().all(|note| note.records == 2 && note.place == 42));
     assert_eq!(played(&log.into_writer()), [0x81, 0x81, 0x80, 5]);
 }

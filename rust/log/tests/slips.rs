@@ -32,8 +32,10 @@ fn must_be_found(name: &str, longest: usize, cut: Cut, plays: common::Plays<'_>)
     assert!(compare(plays, &failure.made, cut).is_err(), "{name}: the cut log fails by itself");
 }
 
+type Answering = Box<dyn FnMut(&[u8], &mut Vec<u8>)>;
+
 /// The right answer on the desk, then something else: the record, what was written for it, and the desk.
-fn wrong_answer(slip: fn(&[u8], &mut Vec<u8>, &mut Desk)) -> impl Fn() -> Player<Box<dyn FnMut(&[u8], &mut Vec<u8>)>> {
+fn wrong_answer(slip: fn(&[u8], &mut Vec<u8>, &mut Desk)) -> impl Fn() -> Player<Answering> {
     move || {
         let mut desk = Desk::default();
         Player::new(Box::new(move |record: &[u8], written: &mut Vec<u8>| {
