@@ -236,11 +236,11 @@ fn a_recorded_run_plays_back_to_the_same_answers() {
     let seconds = start.elapsed().as_secs_f64();
     let text = format!("{HISTORIES} histories recorded: {records} records, {delivered} with interrupts");
     let _ = writeln!(io::stdout().lock(), "{text}, {ranges} ranges; noted by reason: {notes:?}; {seconds:.1} s");
-    assert!(records >= 300_000 && delivered >= 20_000 && ranges >= 10_000, "{text}");
+    assert!(records >= 6_000_000 && delivered >= 18_000 && ranges >= 12_000, "{text}");
     let [no_record, other_memory, other_hub, failed] = notes;
-    assert!(no_record >= 30_000 && other_memory >= 10_000, "{notes:?}");
-    // Every hub came from its log, and no writer failed.
-    assert_eq!((other_hub, failed), (0, 0));
+    assert!(no_record >= 40_000 && other_memory >= 27_000, "{notes:?}");
+    // A set-up that is refused on other words than the hub's leaves it a hub, though the log has none.
+    assert!(other_hub <= 20 && failed == 0, "{notes:?}");
 }
 
 const SETTINGS: Settings = Settings {

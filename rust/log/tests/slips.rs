@@ -51,7 +51,7 @@ fn wrong_answer(slip: fn(&[u8], &mut Vec<u8>, &mut Desk)) -> impl Fn() -> Player
 fn answers_without_deliveries() {
     is_found(
         "no delivery is written",
-        9,
+        10,
         Cut::Whole,
         wrong_answer(|_, own, _| {
             if own[0] == 0x81 {
@@ -65,7 +65,7 @@ fn answers_without_deliveries() {
 fn writes_only_the_first_delivery() {
     is_found(
         "only the first delivery is written",
-        16,
+        15,
         Cut::Whole,
         wrong_answer(|_, own, _| {
             if own[0] == 0x81 {
@@ -79,7 +79,7 @@ fn writes_only_the_first_delivery() {
 fn swaps_the_fields_of_a_delivery() {
     is_found(
         "a delivery has its vector before its target",
-        9,
+        10,
         Cut::Whole,
         wrong_answer(|_, own, _| {
             if own[0] == 0x81 {
@@ -93,7 +93,7 @@ fn swaps_the_fields_of_a_delivery() {
 fn ignores_one_shot() {
     is_found(
         "one-shot does not clear",
-        10,
+        14,
         Cut::Whole,
         wrong_answer(|_, _, desk| {
             for ring in &desk.rings {
@@ -207,12 +207,13 @@ fn answers_the_wrong_refusal_without_a_hub() {
 #[test]
 fn loses_what_is_held_between_pieces() {
     let plays = |pieces: &[&[u8]]| {
-        let mut desk = Desk::default();
+        let mut player = model::log::player();
         let mut written = Vec::new();
         for piece in pieces {
-            // A new player for each piece has nothing of the last.
-            Player::new(|record: &[u8], written: &mut Vec<u8>| desk.answer(record, written)).feed(piece, &mut written);
+            player.held.clear();
+            player.feed(piece, &mut written);
         }
+        player.end(&mut written);
         Ok(written)
     };
     must_be_found("a record that is cut is lost", 1, Cut::Bytes, &plays);

@@ -163,7 +163,8 @@ pub struct Player<A> {
     /// Puts the answer to a whole record at the end of what is written.
     pub answer: A,
     pub bodies: [usize; 12],
-    held: Vec<u8>,
+    /// The bytes of a record that is not whole yet.
+    pub held: Vec<u8>,
     stopped: bool,
 }
 

@@ -55,14 +55,14 @@ impl Logs {
         Logs { generator: Generator::new(seed), random: Random::new(!seed), most_peers: most_peers as u64 }
     }
 
-    /// A log of so many records.
+    /// A log of so many records, or one or two more.
     pub fn next(&mut self, records: usize) -> Made {
         let mut desk = Desk::default();
         let mut made = Made::default();
-        // The first records of some logs meet no hub.
+        // The first record of some logs meets no hub.
         if self.random.chance(1, 4) {
             let event = self.generator.call_of_kind(1, &desk.hub, 0);
-            made.records.extend(self.record_of(event));
+            made.records.extend(self.records_of(event));
         }
         while made.records.len() < records {
             self.add_history(&mut desk, &mut made.records, records);
@@ -81,7 +81,7 @@ impl Logs {
             if matches!(&event, Event::Call(Call::SetUp(settings), _) if too_many.contains(&settings.peers)) {
                 return;
             }
-            if let Some(record) = self.record_of(event) {
+            for record in self.records_of(event) {
                 written.clear();
                 desk.answer(&record, &mut written);
                 records.push(record);
@@ -90,27 +90,23 @@ impl Logs {
     }
 
     /// A player lends the right memory whatever the event says, and nothing damages that.
-    fn record_of(&mut self, event: Event) -> Option<Vec<u8>> {
-        let Event::Call(mut call, _) = event else { return None };
+    fn records_of(&mut self, event: Event) -> Vec<Vec<u8>> {
+        let Event::Call(mut call, _) = event else { return Vec::new() };
         match &mut call {
-            Call::SetUp(settings) => *settings = self.settings(*settings),
+            Call::SetUp(settings) if Numbers::from(&*settings).accepted() => return self.set_ups(*settings),
             // What is at the end of a range is worth as much as what is at its start.
             Call::Load { offset, length, .. } | Call::Store { offset, length, .. } if self.random.chance(1, 2) => {
                 *offset = offset.wrapping_add(*length as u64).wrapping_sub(1);
             }
             _ => {}
         }
-        record(&call)
+        record(&call).into_iter().collect()
     }
 
-    /// Settings that a hub would take, mostly made such as a log takes too, often just so or just not.
-    fn settings(&mut self, settings: Settings) -> Settings {
-        const LARGEST: u64 = LARGEST_TOTAL as u64;
+    /// A set-up that a hub takes, made such as a log takes too, often just so. Sometimes before it one that a log just does not
+    /// take, or the one that it was, and a record that meets no hub.
+    fn set_ups(&mut self, settings: Settings) -> Vec<Vec<u8>> {
         let total = |settings: &Settings| Numbers::from(settings).total();
-        let edge = self.random.below(16);
-        if !Numbers::from(&settings).accepted() || edge == 0 {
-            return settings;
-        }
         let mut fitting = settings;
         if total(&fitting) > LARGEST_TOTAL {
             fitting = Settings { state_table: PAGE, read_write: 0, output: PAGE, ..settings };
@@ -118,12 +114,17 @@ impl Logs {
         if total(&fitting) > LARGEST_TOTAL {
             fitting = Settings { read_write: self.random.pick(&[0, PAGE, 2 * PAGE]), output: 0, ..fitting };
         }
-        let room = LARGEST - (total(&fitting) as u64 - fitting.read_write);
-        match edge {
-            1..4 => Settings { read_write: room, ..fitting },
-            4 => Settings { read_write: room + PAGE, ..fitting },
-            _ => fitting,
+        let room = LARGEST_TOTAL as u64 - (total(&fitting) as u64 - fitting.read_write);
+        let just_not = Settings { read_write: room + PAGE, ..fitting };
+        if self.random.chance(1, 4) {
+            fitting.read_write = room;
         }
+        let before = match self.random.below(8) {
+            0 => vec![Call::SetUp(just_not), Call::Connect { id: 0 }],
+            1 => vec![Call::SetUp(settings)],
+            _ => Vec::new(),
+        };
+        before.iter().chain([&Call::SetUp(fitting)]).filter_map(record).collect()
     }
 
     /// Half of the logs end with a record, the others inside one or with a byte of no kind.

@@ -13,7 +13,7 @@ use benchmark::report::{Style, Table};
 use ivshmem_log::{Answer, Record, Written, records};
 use model::random_log::Logs;
 
-/// The log is so many records of random histories, so many times.
+/// The log is about so many records of random histories, so many times.
 const RECORDS: usize = 200_000;
 const TIMES: usize = 20;
 /// No hub in it has more peers.
@@ -62,13 +62,14 @@ fn measure(program: &Path) -> io::Result<()> {
         let hint = "`rt check player` in the repository's root builds it";
         return Err(io::Error::other(format!("no program {}: {hint}", program.display())));
     }
-    let once: Vec<u8> = Logs::new(2, MOST_PEERS).next(RECORDS).records.concat();
+    let records = Logs::new(2, MOST_PEERS).next(RECORDS).records;
+    let once = records.concat();
     let stored = Stored(std::env::temp_dir().join(format!("playback-{}.log", std::process::id())));
     fs::write(&stored.0, once.repeat(TIMES))?;
     let mut written = Vec::new();
     model::log::player().feed(&once, &mut written);
     let written = written.repeat(TIMES);
-    describe(&once, &written[..written.len() / TIMES]);
+    describe(&once, &written[..written.len() / TIMES], records.len());
 
     let own = std::env::current_exe()?;
     let in_rust = |name: &'static str, player| (name, own.clone(), vec!["--play", player]);
@@ -85,7 +86,7 @@ fn measure(program: &Path) -> io::Result<()> {
             timed.seconds.push(seconds);
         }
     }
-    print(&all);
+    print(&all, records.len() * TIMES);
     Ok(())
 }
 
@@ -115,7 +116,7 @@ fn time(timed: &Timed, log: &Path, written: &[u8]) -> io::Result<f64> {
 }
 
 /// What is in the log.
-fn describe(log: &[u8], written: &[u8]) {
+fn describe(log: &[u8], written: &[u8], length: usize) {
     let answers = Written::decode(written).map(|written| written.answers).unwrap_or_default();
     let (mut kinds, mut refused, mut delivered) = ([0; Record::KINDS.len()], 0, 0);
     for (placed, answer) in records(log).flatten().zip(&answers) {
@@ -126,19 +127,19 @@ fn describe(log: &[u8], written: &[u8]) {
             Answer::Value(_) => {}
         }
     }
-    let share = |count: usize| 100.0 * count as f64 / RECORDS as f64;
-    println!("A log of {} records on hubs of 2 to {MOST_PEERS} peers:", RECORDS * TIMES);
+    let share = |count: usize| 100.0 * count as f64 / length as f64;
+    println!("A log of {} records on hubs of 2 to {MOST_PEERS} peers:", length * TIMES);
     let kinds = Record::KINDS.iter().zip(kinds).map(|(name, count)| format!("{name} {:.1} %", share(count)));
     println!("{};", kinds.collect::<Vec<_>>().join(", "));
     println!("{:.1} % refused, {:.2} interrupts for each record.\n", share(refused), share(delivered) / 100.0);
 }
 
-fn print(all: &[Timed]) {
+fn print(all: &[Timed], records: usize) {
     println!("Records a second, medians of {PASSES} passes, and the program's time by the player's:\n");
     let mut table = Table::new(&["player", "million records a second", "program's time / its time"]);
     let middle = |timed: &Timed| median(timed.seconds.clone());
     for timed in all {
-        let speed = (RECORDS * TIMES) as f64 / middle(timed) / 1e6;
+        let speed = records as f64 / middle(timed) / 1e6;
         let ratio = middle(&all[0]) / middle(timed);
         table.add(vec![timed.name.into(), format!("{speed:.2}"), format!("{ratio:.2}")]);
     }
