@@ -215,10 +215,10 @@ pub struct Failure {
     pub text: String,
 }
 
-/// Drops records, as long as the rest still shows a difference.
+/// Drops records, as long as the rest still shows a difference and it does not take too long, as where the program hangs.
 pub fn shrink(plays: Plays<'_>, mut made: Made, cut: Cut) -> Failure {
-    let found_after = made.records.len();
-    let fails = |made: &Made| compare(plays, made, cut).is_err();
+    let (found_after, start) = (made.records.len(), Instant::now());
+    let fails = |made: &Made| start.elapsed() < LIMIT && compare(plays, made, cut).is_err();
     let without = |made: &Made, start: usize, end: usize| {
         let mut shorter = made.clone();
         shorter.records.drain(start..end);
