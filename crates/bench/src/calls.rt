@@ -1,225 +1,148 @@
-// One call of the hub and the line of its answer.
-use super::places;
-use super::places::Column;
+// One call for each kind of case, and the answer that is written after the case.
+use super::input::Numbers;
+use super::kinds::Kind;
 use super::print;
 use super::state;
-use super::state::MEMORY_WORDS;
+use device::Reply;
+use hub::Served;
 
-// The numbers of a set-up: N, V, S, R, O, base and the length of the region that is lent; then protocol type, subsystem vendor
-// and subsystem id.
-pub type Numbers = [u64; 7];
+// Room for the longest load and store.
+const ROOM: usize = 4097;
 
-pub type Ids = [u16; 3];
-
-// The lowest base, for the cases that ask for no other.
-pub const BASE: u64 = 0x100000;
-
-// The spaces that a guest reads by offset and width.
-pub enum Space {
-    Configuration,
-    Registers,
-    Msix,
-}
-
-fn named(name: &[u8], n: u64) {
-    print::text(name);
-    print::number(n);
-}
-
-fn numbers(n: Numbers) {
-    named(b"set-up N=", n[0]);
-    named(b" V=", n[1]);
-    named(b" S=", n[2]);
-    named(b" R=", n[3]);
-    named(b" O=", n[4]);
-    named(b" base=", n[5]);
+pub fn low_word(n: u64) -> u32 {
+    (n % 0x100000000) as u32
 }
 
 // Whether the words and the region are zero, or hold what they held before the call.
 fn left(hub: &[u32], region: &[u8]) {
+    let phrases =
+        b", words zero|, words kept|, words set|, region kept|, region zero|, region changed";
     if state::all_words(hub, 0) {
-        print::text(b", words zero");
+        print::phrase(phrases, 0);
     } else if state::all_words(hub, state::OLD_WORD) {
-        print::text(b", words kept");
+        print::phrase(phrases, 1);
     } else {
-        print::text(b", words set");
+        print::phrase(phrases, 2);
     }
     if state::all_bytes(region, state::OLD_BYTE) {
-        print::text(b", region kept\n");
+        print::phrase(phrases, 3);
     } else if state::all_bytes(region, 0) {
-        print::text(b", region zero\n");
+        print::phrase(phrases, 4);
     } else {
-        print::text(b", region changed\n");
+        print::phrase(phrases, 5);
     }
 }
 
-// Over whatever the words hold; all of them are lent.
-fn set_up_over(hub: &mut [u32], region: &mut [u8], n: Numbers, ids: Ids) {
-    let bytes = state::first_bytes(region, n[6] as usize);
-    state::fill_bytes(bytes, state::OLD_BYTE);
-    let r = hub::set_up(
-        hub,
-        bytes,
-        n[0],
-        n[1],
-        n[2],
-        n[3],
-        n[4],
-        n[5],
-        ids[0],
-        ids[1],
-        ids[2],
-    );
-    numbers(n);
-    named(b", ", hub.len() as u64);
-    named(b" words, ", bytes.len() as u64);
-    print::text(b" bytes: ");
-    print::done(r);
-    left(hub, bytes);
-}
-
-// Over words that may be a hub.
+// N, V, S, R, O and the base; after them come the lengths of what is lent. The words are whatever they were.
 pub fn set_up_again(hub: &mut [u32], region: &mut [u8], n: Numbers) {
-    print::text(b"again: ");
-    set_up_over(hub, region, n, [0, 0, 0]);
-}
-
-pub fn set_up(hub: &mut [u32], region: &mut [u8], n: Numbers, ids: Ids) {
-    state::fill_words(hub, state::OLD_WORD);
-    set_up_over(hub, region, n, ids);
-}
-
-fn end(same: bool) {
-    if same {
-        print::text(b", words kept");
-    }
-    print::text(b"\n");
-}
-
-pub fn connect(hub: &mut [u32], id: u64) {
-    let mut before = [0u32; MEMORY_WORDS];
-    state::copy_words(hub, &mut before);
-    let r = hub::connect(hub, id);
-    named(b"connect ", id);
-    print::text(b": ");
+    state::fill_bytes(region, state::OLD_BYTE);
+    let r = hub::set_up(hub, region, n.7, n.6, n.5, n.4, n.3, n.2, 0, 0, 0);
     print::done(r);
-    end(state::same_words(hub, &before));
+    left(hub, region);
 }
 
-fn space_name(space: Space) {
-    match space {
-        Space::Configuration => print::text(b"configuration"),
-        Space::Registers => print::text(b"register"),
-        Space::Msix => print::text(b"MSI-X"),
+pub fn set_up(hub: &mut [u32], region: &mut [u8], n: Numbers) {
+    state::fill_words(hub, state::OLD_WORD);
+    set_up_again(hub, region, n);
+}
+
+// A connect, or a write's id, offset, width and value.
+pub fn change(kind: Kind, hub: &mut [u32], n: Numbers) -> Reply {
+    match kind {
+        Kind::ConfigurationWrite => hub::configuration_write(hub, n.3, n.2, n.1, low_word(n.0)),
+        Kind::MsixWrite => hub::msix_write(hub, n.3, n.2, n.1, low_word(n.0)),
+        _ => hub::connect(hub, n.0),
     }
 }
 
-pub fn read(hub: &[u32], space: Space, id: u64, offset: u64, width: u64) {
-    space_name(space);
-    named(b" read by ", id);
-    print::text(b" at ");
-    print::hex(offset);
-    named(b" width ", width);
-    print::text(b": ");
-    let r = match space {
-        Space::Configuration => hub::configuration_read(hub, id, offset, width),
-        Space::Registers => hub::register_read(hub, id, offset, width),
-        Space::Msix => hub::msix_read(hub, id, offset, width),
-    };
-    print::value(r);
-    print::text(b"\n");
-}
-
-pub fn question(hub: &[u32], id: u64, offset: u64, length: u64) {
-    named(b"question by ", id);
-    named(b" at ", offset);
-    named(b" length ", length);
-    print::text(b": ");
-    print::section(hub::section_question(hub, id, offset, length));
-    print::text(b"\n");
-}
-
-// The name of an entry's word.
-fn entry(column: Column, id: u8, vector: u8) {
-    match column {
-        Column::Low => print::text(b"address low"),
-        Column::High => print::text(b"address high"),
-        Column::Payload => print::text(b"data"),
-        Column::Control => print::text(b"control"),
+// Id, offset and width.
+pub fn read(kind: Kind, hub: &[u32], n: Numbers) -> Reply {
+    match kind {
+        Kind::ConfigurationRead => hub::configuration_read(hub, n.2, n.1, n.0),
+        Kind::RegisterRead => hub::register_read(hub, n.2, n.1, n.0),
+        _ => hub::msix_read(hub, n.2, n.1, n.0),
     }
-    named(b" of ", id as u64);
-    named(b", vector ", vector as u64);
 }
 
-fn put(hub: &mut [u32], at: usize, w: u32) {
-    state::put(hub, at, w);
-    print::text(b" made ");
-    print::word(w as u64);
-    print::text(b"h\n");
+// The calls to which a delivery table is lent: a write's id, offset, width and value, or an id.
+fn announced(kind: Kind, hub: &mut [u32], region: &mut [u8], records: u64, n: Numbers) -> Served {
+    match kind {
+        Kind::RegisterWrite => {
+            hub::register_write(hub, region, records, n.3, n.2, n.1, low_word(n.0))
+        }
+        Kind::Reset => hub::reset(hub, region, records, n.0),
+        _ => hub::disconnect(hub, region, records, n.0),
+    }
 }
 
-// A word put into the hub by hand.
-pub fn made(hub: &mut [u32], name: &[u8], at: usize, w: u32) {
-    print::text(name);
-    put(hub, at, w);
+pub fn announce(kind: Kind, hub: &mut [u32], region: &mut [u8], records: u64, n: Numbers) {
+    let s = announced(kind, hub, region, records, n);
+    let reply = s.reply;
+    let list = s.list;
+    print::done(reply);
+    print::delivered(hub, list);
 }
 
-pub fn entry_made(hub: &mut [u32], column: Column, id: u8, vector: u8, w: u32) {
-    entry(column, id, vector);
-    let at = places::entry(hub, column, id, vector);
-    put(hub, at, w);
+// The bytes of a short buffer, or the one value that all bytes of a long one have.
+fn contents(buffer: &[u8]) {
+    let phrases = b",| all| several values";
+    print::phrase(phrases, 0);
+    if buffer.len() <= 8 {
+        print::bytes(buffer);
+    } else if state::all_bytes(buffer, buffer[0]) {
+        print::phrase(phrases, 1);
+        print::bytes(&[buffer[0]]);
+    } else {
+        print::phrase(phrases, 2);
+    }
 }
 
-// The answers of every read of words that may be no hub.
+// Id, offset and length.
+pub fn load(hub: &[u32], region: &[u8], n: Numbers) {
+    let mut room = [state::OLD_BYTE; ROOM];
+    let buffer = state::first_bytes(&mut room, n.0 as usize);
+    let r = hub::load(hub, region, n.2, n.1, buffer);
+    print::done(r);
+    if r.number == 0 {
+        contents(buffer);
+    } else if state::all_bytes(buffer, state::OLD_BYTE) {
+        print::text(b", buffer kept");
+    }
+}
+
+// The first bytes of a room are stored: id, offset and length.
+fn stored(hub: &[u32], region: &mut [u8], room: &[u8], n: Numbers) {
+    let count = state::smaller(n.0 as usize, room.len());
+    print::done(hub::store(hub, region, n.2, n.1, &room[..count]));
+}
+
+// A short store's bytes count up from the first, so that their order shows; a long one's are all the same.
+pub fn store(hub: &[u32], region: &mut [u8], first: u8, n: Numbers) {
+    let b = first % 128;
+    if n.0 <= 8 {
+        let short = [b, b + 1, b + 2, b + 3, b + 4, b + 5, b + 6, b + 7];
+        stored(hub, region, &short, n);
+    } else {
+        stored(hub, region, &[first; ROOM], n);
+    }
+}
+
+// Every read, of words that may be no hub.
 fn every_read(hub: &[u32]) {
-    print::text(b", configuration ");
+    let names = b", configuration |, register |, MSI-X |, question ";
+    print::phrase(names, 0);
     print::value(hub::configuration_read(hub, 0, 0, 4));
-    print::text(b", register ");
+    print::phrase(names, 1);
     print::value(hub::register_read(hub, 0, 0, 4));
-    print::text(b", MSI-X ");
+    print::phrase(names, 2);
     print::value(hub::msix_read(hub, 0, 0, 4));
-    print::text(b", question ");
+    print::phrase(names, 3);
     print::section(hub::section_question(hub, 0, 0, 4));
 }
 
-// A connect before them, and whether the words changed.
-fn every(hub: &mut [u32]) {
-    let mut before = [0u32; MEMORY_WORDS];
-    state::copy_words(hub, &mut before);
-    let joining = hub::connect(hub, 1);
-    print::text(b": connect ");
-    print::done(joining);
+// A connect before them.
+pub fn every(hub: &mut [u32]) {
+    print::text(b"connect ");
+    print::done(hub::connect(hub, 1));
     every_read(hub);
-    end(state::same_words(hub, &before));
-}
-
-// A copy of the hub, in which one word is another.
-fn replaced(hub: &[u32], at: usize, w: u32) {
-    let mut memory = [0u32; MEMORY_WORDS];
-    state::copy_words(hub, &mut memory);
-    let copy = state::first_words(&mut memory, hub.len());
-    state::put(copy, at, w);
-    print::text(b" = ");
-    print::word(w as u64);
-    print::text(b"h");
-    every(copy);
-}
-
-pub fn changed(hub: &[u32], name: &[u8], at: usize, w: u32) {
-    print::text(name);
-    replaced(hub, at, w);
-}
-
-pub fn entry_changed(hub: &[u32], column: Column, id: u8, vector: u8, w: u32) {
-    entry(column, id, vector);
-    replaced(hub, places::entry(hub, column, id, vector), w);
-}
-
-// The first words of the hub, or the hub and more words.
-pub fn cut(hub: &[u32], count: usize) {
-    let mut memory = [0u32; MEMORY_WORDS];
-    state::copy_words(hub, &mut memory);
-    let words = state::first_words(&mut memory, count);
-    named(b"words: ", words.len() as u64);
-    every(words);
 }

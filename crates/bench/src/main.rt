@@ -1,33 +1,36 @@
-// Runs the bench cases and writes one line for each.
-mod acts;
+// Runs the bench cases that a log cannot hold. Each line of standard input is a case, and is written again with its answer.
 mod calls;
-mod kept;
-mod lent;
-mod orders;
+mod cases;
+mod input;
+mod kinds;
 mod places;
 mod print;
-mod reads;
-mod restarts;
-mod rings;
-mod sections;
-mod setups;
-mod shared;
 mod state;
-mod stores;
-mod unsound;
-mod writes;
+
+use cases::Lent;
+use libc::STDIN_FILENO;
+use state::Memory;
+use state::Region;
+
+fn each(text: &[u8], memory: &mut Memory, region: &mut Region) {
+    let mut lent = Lent {
+        words: 0,
+        bytes: 0,
+        records: 0,
+        first: 1,
+    };
+    let mut at = 0;
+    while at < text.len() {
+        let end = input::part_end(text, at, b'\n');
+        lent = cases::run(&text[at..end], memory, region, lent);
+        at = end + 1;
+    }
+}
 
 fn main() {
+    let mut buffer = io::large_buffer();
+    let count = io::read_full(STDIN_FILENO, &mut buffer);
+    let mut memory = [0u32; state::MEMORY_WORDS];
     let mut region = [0u8; state::REGION_BYTES];
-    setups::run(&mut [0u32; state::MEMORY_WORDS], &mut region);
-    reads::run(&mut [0u32; places::TWO_BY_THREE], &mut region);
-    sections::run(&mut [0u32; places::TWO_BY_ONE], &mut region);
-    orders::run(&mut [0u32; places::TWO_BY_THREE], &mut region);
-    unsound::run(&mut region);
-    writes::run(&mut [0u32; places::FOUR_BY_TWO], &mut region);
-    stores::run(&mut [0u32; places::FOUR_BY_TWO], &mut region);
-    rings::run(&mut [0u32; places::FOUR_BY_TWO], &mut region);
-    restarts::run(&mut [0u32; places::FOUR_BY_TWO], &mut region);
-    shared::run(&mut [0u32; places::FOUR_BY_TWO], &mut region);
-    lent::run(&mut [0u32; places::FOUR_BY_TWO], &mut region);
+    each(&buffer[..count], &mut memory, &mut region);
 }

@@ -1,10 +1,13 @@
-// What the program writes: one line for each case.
+// What the program writes. A literal takes longer to check than the call that writes it, so phrases that belong together stand in
+// one, with `|` between them.
+use super::input;
 use deliveries::Deliveries;
 use device::Delivery;
 use device::Reply;
 use device::SectionKind;
 use device::SectionReply;
 use libc::STDOUT_FILENO;
+ghost use Prim.Native.Nat.{_<_};
 
 pub fn text(s: &[u8]) {
     io::write_all(STDOUT_FILENO, s);
@@ -14,49 +17,43 @@ pub fn decimal(n: u64) {
     io::print_decimal(STDOUT_FILENO, n);
 }
 
-// Capital letters, as the rules write them.
-fn digit(d: u64) -> u8 {
-    match d {
-        0 => b'0',
-        1 => b'1',
-        2 => b'2',
-        3 => b'3',
-        4 => b'4',
-        5 => b'5',
-        6 => b'6',
-        7 => b'7',
-        8 => b'8',
-        9 => b'9',
-        10 => b'A',
-        11 => b'B',
-        12 => b'C',
-        13 => b'D',
-        14 => b'E',
-        _ => b'F',
-    }
+// The phrase of that number; nothing where there is none.
+pub fn phrase(phrases: &[u8], number: usize) {
+    let at = input::part_start(phrases, number);
+    text(&phrases[at..input::part_end(phrases, at, b'|')]);
 }
 
-// The lowest byte, four bytes, eight bytes.
+// Capital letters, as the rules write them.
+fn digit(d: u64) -> u8
+    requires { ⌜ d < 16 ⌝ }
+{
+    if d < 10 {
+        return b'0' + d as u8;
+    }
+    b'A' + (d - 10) as u8
+}
+
+// The lowest byte, four bytes.
 fn byte(n: u64) {
     text(&[digit(n / 16 % 16), digit(n % 16)]);
 }
 
-pub fn word(n: u64) {
+fn word(n: u64) {
     byte(n / 0x1000000);
     byte(n / 0x10000);
     byte(n / 0x100);
     byte(n);
 }
 
-// A hexadecimal number of no more bytes than needed.
-pub fn hex(n: u64) {
-    if n > 0xFFFFFFFF {
+// A hexadecimal number of so many digits: 2, 4, 8 or 16.
+pub fn hex(n: u64, digits: usize) {
+    if digits == 16 {
         word(n / 0x100000000);
     }
-    if n > 0xFFFF {
+    if digits >= 8 {
         word(n);
     } else {
-        if n > 0xFF {
+        if digits == 4 {
             byte(n / 0x100);
         }
         byte(n);
@@ -64,53 +61,37 @@ pub fn hex(n: u64) {
     text(b"h");
 }
 
-// A size, an id or a width: decimal where that is easy to read.
-pub fn number(n: u64) {
-    if n < 1000000 {
-        decimal(n);
-    } else {
-        hex(n);
-    }
-}
-
-// A refusal's value is 0.
-fn refused(r: Reply) {
-    text(b"refused ");
-    decimal(r.number as u64);
-    if r.value != 0 {
-        text(b" with a value");
-    }
-}
-
-// The answer to a call that reads nothing: its value is 0.
+// The answer to a call that reads nothing, whose value is 0, as a refusal's is.
 pub fn done(r: Reply) {
-    if r.number != 0 {
-        refused(r);
-        return;
+    let phrases = b"taken|refused | with a value";
+    if r.number == 0 {
+        phrase(phrases, 0);
+    } else {
+        phrase(phrases, 1);
+        decimal(r.number as u64);
     }
-    text(b"taken");
     if r.value != 0 {
-        text(b" with a value");
+        phrase(phrases, 2);
     }
 }
 
 // The answer to a read.
 pub fn value(r: Reply) {
     if r.number != 0 {
-        refused(r);
+        done(r);
         return;
     }
-    word(r.value as u64);
-    text(b"h");
+    hex(r.value as u64, 8);
 }
 
 fn kind(k: SectionKind) {
+    let phrases = b", no section|, State Table|, R/W|, output of ";
     match k {
-        SectionKind::Nothing => text(b"no section"),
-        SectionKind::StateTable => text(b"State Table"),
-        SectionKind::ReadWrite => text(b"R/W"),
+        SectionKind::Nothing => phrase(phrases, 0),
+        SectionKind::StateTable => phrase(phrases, 1),
+        SectionKind::ReadWrite => phrase(phrases, 2),
         SectionKind::Output(owner) => {
-            text(b"output of ");
+            phrase(phrases, 3);
             decimal(owner.0 as u64);
         }
     }
@@ -122,33 +103,23 @@ pub fn section(r: SectionReply) {
     let answer = r.section;
     let where_it_is = answer.kind;
     done(reply);
-    text(b", ");
     kind(where_it_is);
-    if answer.store {
-        text(b", yes");
-    } else {
-        text(b", no");
-    }
-}
-
-// Eight bytes.
-pub fn double(n: u64) {
-    word(n / 0x100000000);
-    word(n);
+    phrase(b", no|, yes", if answer.store { 1 } else { 0 });
 }
 
 fn delivery(d: Delivery) {
     let target = d.target;
     let vector = d.vector;
-    text(b" (");
+    let phrases = b" (|, |)";
+    phrase(phrases, 0);
     decimal(target.0 as u64);
-    text(b", ");
+    phrase(phrases, 1);
     decimal(vector.0 as u64);
-    text(b", ");
-    double(d.address);
-    text(b"h, ");
-    word(d.payload as u64);
-    text(b"h)");
+    phrase(phrases, 1);
+    hex(d.address, 16);
+    phrase(phrases, 1);
+    hex(d.payload as u64, 8);
+    phrase(phrases, 2);
 }
 
 // The deliveries of a call, in ring order, made from the hub that the call left.

@@ -4,15 +4,14 @@ ghost use Prim.Native.Nat.{_≤_};
 // Room for the largest hub and one word too many.
 pub const MEMORY_WORDS: usize = words::MAX_HUB_WORDS + 1;
 
-pub const REGION_BYTES: usize = 36864;
+// Room for a region that is one byte too long.
+pub const REGION_BYTES: usize = 36865;
 
-// Arrays, since their lengths need no proof when they are lent. So each file's hub is an array too, of as many words as its set-up
-// asks for.
 pub type Memory = [u32; MEMORY_WORDS];
 
 pub type Region = [u8; REGION_BYTES];
 
-// The region and the words before a set-up: whatever they hold is replaced or kept whole.
+// The region, the words and a buffer before a call that is to replace them or keep them whole.
 pub const OLD_BYTE: u8 = 0xA5;
 
 pub const OLD_WORD: u32 = 0x5A5A5A5A;
@@ -55,7 +54,7 @@ pub fn all_words(hub: &[u32], w: u32) -> bool {
     true
 }
 
-fn smaller(a: usize, b: usize) -> usize
+pub fn smaller(a: usize, b: usize) -> usize
     ensures { λ r. ⌜ r ≤ b ⌝ }
 {
     if a < b { a } else { b }
@@ -72,14 +71,6 @@ pub fn first_bytes(region: &mut [u8], count: usize) -> &mut [u8] {
     &mut region[..n]
 }
 
-// A word, or zero after the last.
-pub fn word(words: &[u32], k: usize) -> u32 {
-    if k < words.len() {
-        return words[k];
-    }
-    0
-}
-
 // One word replaced by hand, if it is there.
 pub fn put(words: &mut [u32], k: usize, w: u32) {
     if k < words.len() {
@@ -87,23 +78,36 @@ pub fn put(words: &mut [u32], k: usize, w: u32) {
     }
 }
 
-// As many words as there is room for.
-pub fn copy_words(from: &[u32], to: &mut [u32]) {
-    let mut k = 0;
-    while k < from.len() {
-        put(to, k, word(from, k));
-        k += 1;
-    }
-}
-
 // Whether the words are as they were when they were copied.
-pub fn same_words(hub: &[u32], before: &[u32]) -> bool {
+pub fn same_words(words: &Memory, before: &Memory) -> bool {
     let mut k = 0;
-    while k < hub.len() {
-        if word(hub, k) != word(before, k) {
+    while k < MEMORY_WORDS {
+        if words[k] != before[k] {
             return false;
         }
         k += 1;
     }
     true
+}
+
+// The first and the last place where the region differs from its copy; after the end, where it is the same.
+pub struct Change {
+    pub first: usize,
+    pub last: usize,
+}
+
+pub fn compared(region: &Region, before: &Region) -> Change {
+    let mut first = REGION_BYTES;
+    let mut last = REGION_BYTES;
+    let mut k = 0;
+    while k < REGION_BYTES {
+        if region[k] != before[k] {
+            last = k;
+            if first == REGION_BYTES {
+                first = k;
+            }
+        }
+        k += 1;
+    }
+    Change { first, last }
 }

@@ -1,24 +1,28 @@
--- `bench::state::same_words` is safe and ends.
 use Prim.Native.Nat.{_-_}
-use lib.ListN.{length}
 use borrow.Author.Needs.{needs}
 use Rattle.bench.proofs.state.same_words.Statement.{statement}
 use Rattle.bench.proofs.state.same_words.Tie as tie
 
 abbrev Inv-loop : tie.InvT-loop
-Inv-loop hub before k₀ k = Unit
+Inv-loop words before k₀ k = Unit
 
 abbrev μ-loop : tie.MeasureT-loop
-μ-loop hub before k₀ k = length hub - k
+μ-loop words before k₀ k = 4619 - k
 
 loop-holds : tie.Need-loop-holds Inv-loop μ-loop
 loop-holds c = search needs
 
-word-requires : tie.Need-word-requires Inv-loop μ-loop
-word-requires c κs = search needs
+mul-if1 : tie.Need-mul-if1 Inv-loop μ-loop
+mul-if1 c = search needs
 
-word-requires-2 : tie.Need-word-requires-2 Inv-loop μ-loop
-word-requires-2 c κs = search needs
+element-copy-out-if1 : tie.Need-element-copy-out-if1 Inv-loop μ-loop
+element-copy-out-if1 c = search needs
+
+mul-if1-2 : tie.Need-mul-if1-2 Inv-loop μ-loop
+mul-if1-2 c = search needs
+
+element-copy-out-if1-2 : tie.Need-element-copy-out-if1-2 Inv-loop μ-loop
+element-copy-out-if1-2 c = search needs
 
 returns : tie.Need-returns Inv-loop μ-loop
 returns c = search needs
@@ -42,8 +46,10 @@ same-words-spec =
     Inv-loop
     μ-loop
     loop-holds
-    word-requires
-    word-requires-2
+    mul-if1
+    element-copy-out-if1
+    mul-if1-2
+    element-copy-out-if1-2
     returns
     add-k
     loop-less

@@ -1,15 +1,14 @@
--- `bench::kept::last_change` is safe and ends.
-use Prim.Native.Nat.{_-_}
+use Prim.Native.Nat.{_-_, _≤_}
 use lib.ListN.{length}
 use borrow.Author.Needs.{needs}
-use Rattle.bench.proofs.kept.last_change.Statement.{statement}
-use Rattle.bench.proofs.kept.last_change.Tie as tie
+use Rattle.bench.proofs.input.find.Statement.{statement}
+use Rattle.bench.proofs.input.find.Tie as tie
 
 abbrev Inv-loop : tie.InvT-loop
-Inv-loop region before last₀ k₀ last k = Unit
+Inv-loop text b k₀ k = k ≤ length text
 
 abbrev μ-loop : tie.MeasureT-loop
-μ-loop region before last₀ k₀ last k = length region - k
+μ-loop text b k₀ k = length text - k
 
 loop-holds : tie.Need-loop-holds Inv-loop μ-loop
 loop-holds c = search needs
@@ -17,8 +16,8 @@ loop-holds c = search needs
 shared-slice-read-if1 : tie.Need-shared-slice-read-if1 Inv-loop μ-loop
 shared-slice-read-if1 c = search needs
 
-byte-or-zero-requires : tie.Need-byte-or-zero-requires Inv-loop μ-loop
-byte-or-zero-requires c κs = search needs
+returns : tie.Need-returns Inv-loop μ-loop
+returns c = search needs
 
 add-k : tie.Need-add-k Inv-loop μ-loop
 add-k c = search needs
@@ -29,19 +28,19 @@ loop-less c = search needs
 loop-again : tie.Need-loop-again Inv-loop μ-loop
 loop-again c = search needs
 
-returns : tie.Need-returns Inv-loop μ-loop
-returns c = search needs
+returns-2 : tie.Need-returns-2 Inv-loop μ-loop
+returns-2 c = search needs
 
-pub last-change-spec : {M : Type 1} → statement M
-last-change-spec =
+pub find-spec : {M : Type 1} → statement M
+find-spec =
     tie.close
     (tie.spec
     Inv-loop
     μ-loop
     loop-holds
     shared-slice-read-if1
-    byte-or-zero-requires
+    returns
     add-k
     loop-less
     loop-again
-    returns)
+    returns-2)

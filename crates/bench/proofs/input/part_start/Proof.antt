@@ -1,27 +1,26 @@
--- `bench::kept::first_change` is safe and ends.
-use Prim.Native.Nat.{_-_}
+use Prim.Native.Nat.{_-_, _≤_}
 use lib.ListN.{length}
 use borrow.Author.Needs.{needs}
-use Rattle.bench.proofs.kept.first_change.Statement.{statement}
-use Rattle.bench.proofs.kept.first_change.Tie as tie
+use Rattle.bench.proofs.input.part_start.Statement.{statement}
+use Rattle.bench.proofs.input.part_start.Tie as tie
 
 abbrev Inv-loop : tie.InvT-loop
-Inv-loop region before k₀ k = Unit
+Inv-loop text number at₀ k₀ at k = at ≤ length text
 
 abbrev μ-loop : tie.MeasureT-loop
-μ-loop region before k₀ k = length region - k
+μ-loop text number at₀ k₀ at k = number - k
 
 loop-holds : tie.Need-loop-holds Inv-loop μ-loop
 loop-holds c = search needs
 
-shared-slice-read-if1 : tie.Need-shared-slice-read-if1 Inv-loop μ-loop
-shared-slice-read-if1 c = search needs
-
-byte-or-zero-requires : tie.Need-byte-or-zero-requires Inv-loop μ-loop
-byte-or-zero-requires c κs = search needs
+part-end-requires : tie.Need-part-end-requires Inv-loop μ-loop
+part-end-requires c κs = search needs
 
 returns : tie.Need-returns Inv-loop μ-loop
 returns c = search needs
+
+add-at : tie.Need-add-at Inv-loop μ-loop
+add-at c = search needs
 
 add-k : tie.Need-add-k Inv-loop μ-loop
 add-k c = search needs
@@ -35,16 +34,16 @@ loop-again c = search needs
 returns-2 : tie.Need-returns-2 Inv-loop μ-loop
 returns-2 c = search needs
 
-pub first-change-spec : {M : Type 1} → statement M
-first-change-spec =
+pub part-start-spec : {M : Type 1} → statement M
+part-start-spec =
     tie.close
     (tie.spec
     Inv-loop
     μ-loop
     loop-holds
-    shared-slice-read-if1
-    byte-or-zero-requires
+    part-end-requires
     returns
+    add-at
     add-k
     loop-less
     loop-again

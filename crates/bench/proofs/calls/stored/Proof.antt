@@ -1,0 +1,35 @@
+use mathlib.Core.Path.{sym}
+use native.Mathlib.Omega.{arith}
+use lib.Seq.{length-take-le}
+use borrow.Author.Needs.{needs}
+use Rattle.bench.proofs.calls.stored.Statement.{statement}
+use Rattle.bench.proofs.calls.stored.Tie as tie
+
+smaller-requires : tie.Need-smaller-requires
+smaller-requires c κs = search needs
+
+slice-aggregate-store : tie.Need-slice-aggregate-store
+slice-aggregate-store c = sym (length-take-le _ _ (omega arith))
+
+store-requires : tie.Need-store-requires
+store-requires c κs = search needs
+
+done-requires : tie.Need-done-requires
+done-requires c κs = search needs
+
+same-length : tie.Need-same-length
+same-length c = search needs
+
+returns : tie.Need-returns
+returns c = search needs
+
+pub stored-spec : {M : Type 1} → statement M
+stored-spec =
+    tie.close
+    (tie.spec
+    smaller-requires
+    slice-aggregate-store
+    store-requires
+    done-requires
+    same-length
+    returns)
