@@ -4,20 +4,22 @@ use super::input;
 use super::input::Numbers;
 use super::kinds;
 use super::kinds::Kind;
-use super::places;
 use super::print;
+use super::print::say;
 use super::state;
 use super::state::Change;
+use super::state::MEMORY_WORDS;
 use super::state::Memory;
+use super::state::OLD_BYTE;
+use super::state::OLD_WORD;
 use super::state::REGION_BYTES;
 use super::state::Region;
 
-// Words of the memory, bytes of the region, records of a delivery table; and the first byte of a store.
+// Words of the memory, bytes of the region, records of a delivery table.
 pub struct Lent {
     pub words: usize,
     pub bytes: usize,
     pub records: u64,
-    pub first: u8,
 }
 
 // What is lent from this line on; of a hub's first words alone, for this line.
@@ -29,7 +31,7 @@ fn lent_now(kind: Kind, n: Numbers, lent: Lent) -> Lent {
             now.bytes = n.0 as usize;
             now.records = device::MAX_PEERS as u64;
         }
-        Kind::Lend => {
+        Kind::Lend | Kind::Words => {
             now.words = n.1 as usize;
             now.records = n.0;
         }
@@ -37,17 +39,14 @@ fn lent_now(kind: Kind, n: Numbers, lent: Lent) -> Lent {
             now.bytes = n.1 as usize;
             now.records = n.0;
         }
-        Kind::Words | Kind::Cut => now.words = n.0 as usize,
-        Kind::Stored => now.first = (n.0 % 256) as u8,
+        Kind::Cut => now.words = n.0 as usize,
         _ => {}
     }
     now
 }
 
-fn answered(kind: Kind, n: Numbers, hub: &mut [u32], region: &mut [u8], lent: Lent) {
+fn on_hub(kind: Kind, n: Numbers, hub: &mut [u32]) {
     match kind {
-        Kind::SetUp => calls::set_up(hub, region, n),
-        Kind::Again => calls::set_up_again(hub, region, n),
         Kind::Connect | Kind::ConfigurationWrite | Kind::MsixWrite => {
             print::done(calls::change(kind, hub, n))
         }
@@ -55,13 +54,20 @@ fn answered(kind: Kind, n: Numbers, hub: &mut [u32], region: &mut [u8], lent: Le
             print::value(calls::read(kind, hub, n))
         }
         Kind::Question => print::section(hub::section_question(hub, n.2, n.1, n.0)),
-        Kind::RegisterWrite | Kind::Reset | Kind::Disconnect => {
-            calls::announce(kind, hub, region, lent.records, n)
-        }
-        Kind::Load => calls::load(hub, region, n),
-        Kind::Store => calls::store(hub, region, lent.first, n),
         Kind::Changed | Kind::Cut => calls::every(hub),
         _ => {}
+    }
+}
+
+fn answered(kind: Kind, n: Numbers, hub: &mut [u32], region: &mut [u8], records: u64) {
+    match kind {
+        Kind::SetUp | Kind::Again => calls::set_up(hub, region, n),
+        Kind::RegisterWrite | Kind::Reset | Kind::Disconnect => {
+            calls::announce(kind, hub, region, records, n)
+        }
+        Kind::Load => calls::load(hub, region, n),
+        Kind::Store => calls::store(hub, region, n),
+        _ => on_hub(kind, n, hub),
     }
 }
 
@@ -69,30 +75,53 @@ fn answered(kind: Kind, n: Numbers, hub: &mut [u32], region: &mut [u8], lent: Le
 fn lent_to(kind: Kind, n: Numbers, memory: &mut [u32], region: &mut [u8], lent: Lent) {
     let words = lent.words;
     let bytes = lent.bytes;
-    let hub = state::first_words(memory, words);
-    let part = state::first_bytes(region, bytes);
-    answered(kind, n, hub, part, lent);
+    if words <= memory.len() {
+        if bytes <= region.len() {
+            answered(
+                kind,
+                n,
+                &mut memory[..words],
+                &mut region[..bytes],
+                lent.records,
+            );
+        }
+    }
 }
 
-// The word that the line puts into the hub, or into it for this case alone.
-fn damage(line: &[u8], kind: Kind, n: Numbers, memory: &mut [u32]) {
+// What the memory and the region hold before the call, and the word that is put by hand: what it is to be, and its place.
+fn prepared(kind: Kind, n: Numbers, memory: &mut Memory, region: &mut Region) {
     match kind {
+        Kind::SetUp => {
+            *memory = [OLD_WORD; MEMORY_WORDS];
+            *region = [OLD_BYTE; REGION_BYTES];
+        }
+        Kind::Again => *region = [OLD_BYTE; REGION_BYTES],
         Kind::Made | Kind::Changed => {
-            let at = places::named(memory, line, n);
-            state::put(memory, at, calls::low_word(n.0));
+            let at = n.0 as usize;
+            if at < MEMORY_WORDS {
+                memory[at] = calls::low_word(n.1);
+            }
         }
         _ => {}
     }
 }
 
-// Whether the words, or words and region, are as they were.
-fn kept(kind: Kind, words: bool, region: bool) -> usize {
+// What is written between the case and its answer.
+fn middle(kind: Kind) -> usize {
+    match kind {
+        Kind::Lent | Kind::Lend | Kind::Words | Kind::Made => print::NOTHING,
+        _ => print::ANSWER,
+    }
+}
+
+// What is written last: whether the words, or words and region, are as they were.
+fn ending(kind: Kind, words: bool, region: bool) -> usize {
     match kind {
         Kind::Connect | Kind::Changed | Kind::Cut => {
             if words {
-                return 1;
+                return print::KEPT;
             }
-            0
+            print::LINE_END
         }
         Kind::ConfigurationWrite
         | Kind::MsixWrite
@@ -101,63 +130,59 @@ fn kept(kind: Kind, words: bool, region: bool) -> usize {
         | Kind::Disconnect
         | Kind::Store => {
             if words & region {
-                return 2;
+                return print::UNCHANGED;
             }
-            0
+            print::LINE_END
         }
-        Kind::Lent => 3,
-        Kind::Comment | Kind::Lend | Kind::Stored => 4,
-        _ => 0,
-    }
-}
-
-// What a store changed.
-fn stored(kind: Kind, first: usize, last: usize) {
-    match kind {
-        Kind::Store => {
-            let phrases = b", bytes | to | changed";
-            print::phrase(phrases, 0);
-            print::decimal(first as u64);
-            print::phrase(phrases, 1);
-            print::decimal(last as u64);
-            print::phrase(phrases, 2);
-        }
-        _ => {}
+        Kind::Lent => print::SPACE,
+        Kind::Lend => print::NOTHING,
+        _ => print::LINE_END,
     }
 }
 
 fn end(kind: Kind, words: bool, change: Change) {
-    let first = change.first;
-    let same = first == REGION_BYTES;
-    if !same {
-        stored(kind, first, change.last);
+    let same = change.first == REGION_BYTES;
+    if let Kind::Store = kind {
+        if !same {
+            say(print::FIRST_CHANGED, change.first as u64);
+            say(print::LAST_CHANGED, change.last as u64);
+        }
     }
-    print::phrase(
-        b"\n|, words kept\n|, unchanged\n| ",
-        kept(kind, words, same),
-    );
+    say(ending(kind, words, same), 0);
 }
 
 // One line, and what is lent after it.
 pub fn run(line: &[u8], memory: &mut Memory, region: &mut Region, lent: Lent) -> Lent {
     let kind = kinds::of(line);
-    let n = kinds::shown(line, kind);
+    if let Kind::Comment = kind {
+        return lent;
+    }
+    let shown = input::find(line, 0, b'@');
+    print::text(&line[..shown]);
+    say(middle(kind), 0);
+    let n = input::scan(line);
     let now = lent_now(kind, n, lent);
+    case(kind, n, memory, region, now);
+    if let Kind::Cut = kind {
+        return lent;
+    }
+    now
+}
+
+// A word that was put for this case alone is as it was after it.
+fn case(kind: Kind, n: Numbers, memory: &mut Memory, region: &mut Region, lent: Lent) {
     let whole = *memory;
-    damage(line, kind, n, memory);
+    prepared(kind, n, memory, region);
     let words = *memory;
     let bytes = *region;
-    lent_to(kind, n, memory, region, now);
+    lent_to(kind, n, memory, region, lent);
     end(
         kind,
         state::same_words(memory, &words),
         state::compared(region, &bytes),
     );
     match kind {
-        Kind::Changed | Kind::Cut => {
-            *memory = whole;
-            lent
-        }
-        _ => now,
+        Kind::Changed | Kind::Cut => *memory = whole,
+        _ => {}
     }
 }

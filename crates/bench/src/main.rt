@@ -3,7 +3,6 @@ mod calls;
 mod cases;
 mod input;
 mod kinds;
-mod places;
 mod print;
 mod state;
 
@@ -17,11 +16,10 @@ fn each(text: &[u8], memory: &mut Memory, region: &mut Region) {
         words: 0,
         bytes: 0,
         records: 0,
-        first: 1,
     };
     let mut at = 0;
     while at < text.len() {
-        let end = input::part_end(text, at, b'\n');
+        let end = input::find(text, at, b'\n');
         lent = cases::run(&text[at..end], memory, region, lent);
         at = end + 1;
     }

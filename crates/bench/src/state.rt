@@ -1,5 +1,4 @@
-// What the hub's words and the region hold before and after a call, and the parts of both that are lent.
-ghost use Prim.Native.Nat.{_≤_};
+// What the hub's words and the region hold before and after a call.
 
 // Room for the largest hub and one word too many.
 pub const MEMORY_WORDS: usize = words::MAX_HUB_WORDS + 1;
@@ -15,22 +14,6 @@ pub type Region = [u8; REGION_BYTES];
 pub const OLD_BYTE: u8 = 0xA5;
 
 pub const OLD_WORD: u32 = 0x5A5A5A5A;
-
-pub fn fill_bytes(region: &mut [u8], b: u8) {
-    let mut k = 0;
-    while k < region.len() {
-        region[k] = b;
-        k += 1;
-    }
-}
-
-pub fn fill_words(hub: &mut [u32], w: u32) {
-    let mut k = 0;
-    while k < hub.len() {
-        hub[k] = w;
-        k += 1;
-    }
-}
 
 pub fn all_bytes(region: &[u8], b: u8) -> bool {
     let mut k = 0;
@@ -52,30 +35,6 @@ pub fn all_words(hub: &[u32], w: u32) -> bool {
         k += 1;
     }
     true
-}
-
-pub fn smaller(a: usize, b: usize) -> usize
-    ensures { λ r. ⌜ r ≤ b ⌝ }
-{
-    if a < b { a } else { b }
-}
-
-// So many words of those there are, or all, from the front.
-pub fn first_words(memory: &mut [u32], count: usize) -> &mut [u32] {
-    let n = smaller(count, memory.len());
-    &mut memory[..n]
-}
-
-pub fn first_bytes(region: &mut [u8], count: usize) -> &mut [u8] {
-    let n = smaller(count, region.len());
-    &mut region[..n]
-}
-
-// One word replaced by hand, if it is there.
-pub fn put(words: &mut [u32], k: usize, w: u32) {
-    if k < words.len() {
-        words[k] = w;
-    }
 }
 
 // Whether the words are as they were when they were copied.

@@ -5,9 +5,6 @@ use borrow.Author.Needs.{needs}
 use Rattle.bench.proofs.calls.stored.Statement.{statement}
 use Rattle.bench.proofs.calls.stored.Tie as tie
 
-smaller-requires : tie.Need-smaller-requires
-smaller-requires c κs = search needs
-
 slice-aggregate-store : tie.Need-slice-aggregate-store
 slice-aggregate-store c = sym (length-take-le _ _ (omega arith))
 
@@ -23,13 +20,10 @@ same-length c = search needs
 returns : tie.Need-returns
 returns c = search needs
 
+returns-2 : tie.Need-returns-2
+returns-2 c = search needs
+
 pub stored-spec : {M : Type 1} → statement M
 stored-spec =
     tie.close
-    (tie.spec
-    smaller-requires
-    slice-aggregate-store
-    store-requires
-    done-requires
-    same-length
-    returns)
+    (tie.spec slice-aggregate-store store-requires done-requires same-length returns returns-2)

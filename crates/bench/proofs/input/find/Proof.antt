@@ -5,10 +5,10 @@ use Rattle.bench.proofs.input.find.Statement.{statement}
 use Rattle.bench.proofs.input.find.Tie as tie
 
 abbrev Inv-loop : tie.InvT-loop
-Inv-loop text b k₀ k = k ≤ length text
+Inv-loop text at b k₀ k = (at ≤ k) × (k ≤ length text)
 
 abbrev μ-loop : tie.MeasureT-loop
-μ-loop text b k₀ k = length text - k
+μ-loop text at b k₀ k = length text - k
 
 loop-holds : tie.Need-loop-holds Inv-loop μ-loop
 loop-holds c = search needs

@@ -5,43 +5,52 @@ use Rattle.bench.proofs.input.which.Statement.{statement}
 use Rattle.bench.proofs.input.which.Tie as tie
 
 abbrev Inv-loop : tie.InvT-loop
-Inv-loop line names count₀ at₀ count at = count ≤ at
+Inv-loop line names name₀ start₀ same₀ k₀ name start same k = (start ≤ k) × (name ≤ k)
 
 abbrev μ-loop : tie.MeasureT-loop
-μ-loop line names count₀ at₀ count at = length names - at
+μ-loop line names name₀ start₀ same₀ k₀ name start same k = length names - k
 
 loop-holds : tie.Need-loop-holds Inv-loop μ-loop
 loop-holds c = search needs
 
-part-end-requires : tie.Need-part-end-requires Inv-loop μ-loop
-part-end-requires c κs = search needs
+shared-slice-read-if1 : tie.Need-shared-slice-read-if1 Inv-loop μ-loop
+shared-slice-read-if1 c = search needs
 
-sub-begins : tie.Need-sub-begins Inv-loop μ-loop
-sub-begins c = search needs
+sub-stands-at : tie.Need-sub-stands-at Inv-loop μ-loop
+sub-stands-at c = search needs
 
-part-begins-start : tie.Need-part-begins-start Inv-loop μ-loop
-part-begins-start c = search needs
+shared-slice-read-stands-at : tie.Need-shared-slice-read-stands-at Inv-loop μ-loop
+shared-slice-read-stands-at c = search needs
 
-part-begins-end : tie.Need-part-begins-end Inv-loop μ-loop
-part-begins-end c = search needs
+stands-at-requires : tie.Need-stands-at-requires Inv-loop μ-loop
+stands-at-requires c κs = search needs
 
-begins-requires : tie.Need-begins-requires Inv-loop μ-loop
-begins-requires c κs = search needs
-
-returns : tie.Need-returns Inv-loop μ-loop
-returns c = search needs
-
-add-count : tie.Need-add-count Inv-loop μ-loop
-add-count c = search needs
-
-add-at : tie.Need-add-at Inv-loop μ-loop
-add-at c = search needs
+add-k : tie.Need-add-k Inv-loop μ-loop
+add-k c = search needs
 
 loop-less : tie.Need-loop-less Inv-loop μ-loop
 loop-less c = search needs
 
 loop-again : tie.Need-loop-again Inv-loop μ-loop
 loop-again c = search needs
+
+returns : tie.Need-returns Inv-loop μ-loop
+returns c = search needs
+
+add-name : tie.Need-add-name Inv-loop μ-loop
+add-name c = search needs
+
+add-start : tie.Need-add-start Inv-loop μ-loop
+add-start c = search needs
+
+add-k-2 : tie.Need-add-k-2 Inv-loop μ-loop
+add-k-2 c = search needs
+
+loop-less-2 : tie.Need-loop-less-2 Inv-loop μ-loop
+loop-less-2 c = search needs
+
+loop-again-2 : tie.Need-loop-again-2 Inv-loop μ-loop
+loop-again-2 c = search needs
 
 returns-2 : tie.Need-returns-2 Inv-loop μ-loop
 returns-2 c = search needs
@@ -53,14 +62,17 @@ which-spec =
     Inv-loop
     μ-loop
     loop-holds
-    part-end-requires
-    sub-begins
-    part-begins-start
-    part-begins-end
-    begins-requires
-    returns
-    add-count
-    add-at
+    shared-slice-read-if1
+    sub-stands-at
+    shared-slice-read-stands-at
+    stands-at-requires
+    add-k
     loop-less
     loop-again
+    returns
+    add-name
+    add-start
+    add-k-2
+    loop-less-2
+    loop-again-2
     returns-2)

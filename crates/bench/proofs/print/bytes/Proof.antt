@@ -1,4 +1,3 @@
--- `bench::print::bytes` is safe and ends.
 use Prim.Native.Nat.{_-_}
 use lib.ListN.{length}
 use borrow.Author.Needs.{needs}
@@ -6,19 +5,13 @@ use Rattle.bench.proofs.print.bytes.Statement.{statement}
 use Rattle.bench.proofs.print.bytes.Tie as tie
 
 abbrev Inv-loop : tie.InvT-loop
-Inv-loop b k₀ t3 k = Unit
+Inv-loop b k₀ k = Unit
 
 abbrev μ-loop : tie.MeasureT-loop
-μ-loop b k₀ t3 k = length b - k
+μ-loop b k₀ k = length b - k
 
 loop-holds : tie.Need-loop-holds Inv-loop μ-loop
 loop-holds c = search needs
-
-slice-aggregate-text : tie.Need-slice-aggregate-text Inv-loop μ-loop
-slice-aggregate-text c = search needs
-
-text-requires : tie.Need-text-requires Inv-loop μ-loop
-text-requires c κs = search needs
 
 shared-slice-read-wide : tie.Need-shared-slice-read-wide Inv-loop μ-loop
 shared-slice-read-wide c = search needs
@@ -26,8 +19,8 @@ shared-slice-read-wide c = search needs
 wide-requires : tie.Need-wide-requires Inv-loop μ-loop
 wide-requires c κs = search needs
 
-byte-requires : tie.Need-byte-requires Inv-loop μ-loop
-byte-requires c κs = search needs
+say-requires : tie.Need-say-requires Inv-loop μ-loop
+say-requires c κs = search needs
 
 add-k : tie.Need-add-k Inv-loop μ-loop
 add-k c = search needs
@@ -48,11 +41,9 @@ bytes-spec =
     Inv-loop
     μ-loop
     loop-holds
-    slice-aggregate-text
-    text-requires
     shared-slice-read-wide
     wide-requires
-    byte-requires
+    say-requires
     add-k
     loop-less
     loop-again

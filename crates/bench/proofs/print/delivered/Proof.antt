@@ -1,5 +1,4 @@
--- `bench::print::delivered` is safe and ends.
-use Prim.Native.Nat.{_-_, _^_}
+use Prim.Native.Nat.{_-_}
 use borrow.Author.Needs.{needs}
 use Rattle.bench.proofs.print.delivered.Statement.{statement}
 use Rattle.bench.proofs.print.delivered.Tie as tie
@@ -7,15 +6,11 @@ use Rattle.bench.proofs.print.delivered.Tie as tie
 abbrev Inv-loop : tie.InvT-loop
 Inv-loop hub count vector targets k₀ k = Unit
 
--- any bound on the most peers serves
 abbrev μ-loop : tie.MeasureT-loop
-μ-loop hub count vector targets k₀ k = 2 ^ 16 - k
+μ-loop hub count vector targets k₀ k = 65536 - k
 
-slice-aggregate-text : tie.Need-slice-aggregate-text Inv-loop μ-loop
-slice-aggregate-text c = search needs
-
-text-requires : tie.Need-text-requires Inv-loop μ-loop
-text-requires c κs = search needs
+say-requires : tie.Need-say-requires Inv-loop μ-loop
+say-requires c κs = search needs
 
 loop-holds : tie.Need-loop-holds Inv-loop μ-loop
 loop-holds c = search needs
@@ -47,8 +42,7 @@ delivered-spec =
     (tie.spec
     Inv-loop
     μ-loop
-    slice-aggregate-text
-    text-requires
+    say-requires
     loop-holds
     array-read-sent
     sent-requires

@@ -1,26 +1,28 @@
-use Prim.Native.Nat.{_-_, _≤_}
-use lib.ListN.{length}
+use Prim.Native.Nat.{_-_}
 use borrow.Author.Needs.{needs}
-use Rattle.bench.proofs.input.part_start.Statement.{statement}
-use Rattle.bench.proofs.input.part_start.Tie as tie
+use Rattle.bench.proofs.print.say.Statement.{statement}
+use Rattle.bench.proofs.print.say.Tie as tie
 
 abbrev Inv-loop : tie.InvT-loop
-Inv-loop text number at₀ k₀ at k = at ≤ length text
+Inv-loop phrase n left₀ k₀ left k = Unit
 
 abbrev μ-loop : tie.MeasureT-loop
-μ-loop text number at₀ k₀ at k = number - k
+μ-loop phrase n left₀ k₀ left k = 65536 - k
 
 loop-holds : tie.Need-loop-holds Inv-loop μ-loop
 loop-holds c = search needs
 
-part-end-requires : tie.Need-part-end-requires Inv-loop μ-loop
-part-end-requires c κs = search needs
+array-read-b : tie.Need-array-read-b Inv-loop μ-loop
+array-read-b c = search needs
 
 returns : tie.Need-returns Inv-loop μ-loop
 returns c = search needs
 
-add-at : tie.Need-add-at Inv-loop μ-loop
-add-at c = search needs
+sub-left : tie.Need-sub-left Inv-loop μ-loop
+sub-left c = search needs
+
+spoken-requires : tie.Need-spoken-requires Inv-loop μ-loop
+spoken-requires c κs = search needs
 
 add-k : tie.Need-add-k Inv-loop μ-loop
 add-k c = search needs
@@ -34,16 +36,17 @@ loop-again c = search needs
 returns-2 : tie.Need-returns-2 Inv-loop μ-loop
 returns-2 c = search needs
 
-pub part-start-spec : {M : Type 1} → statement M
-part-start-spec =
+pub say-spec : {M : Type 1} → statement M
+say-spec =
     tie.close
     (tie.spec
     Inv-loop
     μ-loop
     loop-holds
-    part-end-requires
+    array-read-b
     returns
-    add-at
+    sub-left
+    spoken-requires
     add-k
     loop-less
     loop-again
