@@ -1,3 +1,4 @@
+-- `bench::calls::load` is safe: the buffer lies within its room.
 use mathlib.Core.Path.{sym}
 use native.Mathlib.Omega.{arith}
 use lib.Seq.{length-take-le}

@@ -1,3 +1,4 @@
+-- `bench::calls::stored` is safe: the bytes lie within the room.
 use mathlib.Core.Path.{sym}
 use native.Mathlib.Omega.{arith}
 use lib.Seq.{length-take-le}

@@ -1,3 +1,4 @@
+-- `bench::cases::lent_to` is safe: what is lent lies within the memory and the region.
 use mathlib.Core.Path.{sym}
 use native.Mathlib.Omega.{arith}
 use lib.Seq.{length-take-le}

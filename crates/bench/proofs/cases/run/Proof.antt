@@ -1,3 +1,4 @@
+-- `bench::cases::run` is safe: what is written of the line lies within it.
 use mathlib.Core.Path.{sym}
 use native.Mathlib.Omega.{arith}
 use lib.Seq.{length-take-le}

@@ -1,3 +1,4 @@
+-- `bench::input::find` meets its contract, and ends.
 use Prim.Native.Nat.{_-_, _≤_}
 use lib.ListN.{length}
 use borrow.Author.Needs.{needs}

@@ -1,3 +1,4 @@
+-- `bench::input::which` is safe and ends: a name starts no later than the place that is read, and there are no more names than places.
 use Prim.Native.Nat.{_-_, _≤_}
 use lib.ListN.{length}
 use borrow.Author.Needs.{needs}

@@ -1,3 +1,4 @@
+-- `bench::print::bytes` is safe and ends.
 use Prim.Native.Nat.{_-_}
 use lib.ListN.{length}
 use borrow.Author.Needs.{needs}

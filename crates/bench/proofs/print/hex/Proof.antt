@@ -1,3 +1,4 @@
+-- `bench::print::hex` is safe and ends: the array keeps its length.
 use Prim.Native.Nat.{_-_}
 use mathlib.Core.Path.{_≡_}
 use lib.ListN.{length}
