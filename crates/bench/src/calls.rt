@@ -1,6 +1,6 @@
 // One call for each kind of case, and the answer that is written after the case.
 use super::input::Numbers;
-use super::kinds::Kind;
+use super::kinds::Space;
 use super::print;
 use super::print::say;
 use super::state;
@@ -39,21 +39,20 @@ pub fn set_up(hub: &mut [u32], region: &mut [u8], n: Numbers) {
     left(hub, region);
 }
 
-// A connect, or a write's id, offset, width and value.
-pub fn change(kind: Kind, hub: &mut [u32], n: Numbers) -> Reply {
-    match kind {
-        Kind::ConfigurationWrite => hub::configuration_write(hub, n.3, n.2, n.1, low_word(n.0)),
-        Kind::MsixWrite => hub::msix_write(hub, n.3, n.2, n.1, low_word(n.0)),
-        _ => hub::connect(hub, n.0),
+// A write of configuration space or of the MSI-X region: id, offset, width and value.
+pub fn write(space: Space, hub: &mut [u32], n: Numbers) -> Reply {
+    match space {
+        Space::Configuration => hub::configuration_write(hub, n.3, n.2, n.1, low_word(n.0)),
+        _ => hub::msix_write(hub, n.3, n.2, n.1, low_word(n.0)),
     }
 }
 
 // Id, offset and width.
-pub fn read(kind: Kind, hub: &[u32], n: Numbers) -> Reply {
-    match kind {
-        Kind::ConfigurationRead => hub::configuration_read(hub, n.2, n.1, n.0),
-        Kind::RegisterRead => hub::register_read(hub, n.2, n.1, n.0),
-        _ => hub::msix_read(hub, n.2, n.1, n.0),
+pub fn read(space: Space, hub: &[u32], n: Numbers) -> Reply {
+    match space {
+        Space::Configuration => hub::configuration_read(hub, n.2, n.1, n.0),
+        Space::Registers => hub::register_read(hub, n.2, n.1, n.0),
+        Space::Msix => hub::msix_read(hub, n.2, n.1, n.0),
     }
 }
 
@@ -64,22 +63,20 @@ fn served(hub: &[u32], s: Served) {
     print::delivered(hub, list);
 }
 
-// The calls to which a delivery table is lent: a write's id, offset, width and value, or an id.
-pub fn announce(kind: Kind, hub: &mut [u32], region: &mut [u8], records: u64, n: Numbers) {
-    match kind {
-        Kind::RegisterWrite => {
-            let s = hub::register_write(hub, region, records, n.3, n.2, n.1, low_word(n.0));
-            served(hub, s);
-        }
-        Kind::Reset => {
-            let s = hub::reset(hub, region, records, n.0);
-            served(hub, s);
-        }
-        _ => {
-            let s = hub::disconnect(hub, region, records, n.0);
-            served(hub, s);
-        }
-    }
+// The calls to which a delivery table is lent: id, offset, width and value, or an id.
+pub fn register_write(hub: &mut [u32], region: &mut [u8], records: u64, n: Numbers) {
+    let s = hub::register_write(hub, region, records, n.3, n.2, n.1, low_word(n.0));
+    served(hub, s);
+}
+
+pub fn reset(hub: &mut [u32], region: &mut [u8], records: u64, id: u64) {
+    let s = hub::reset(hub, region, records, id);
+    served(hub, s);
+}
+
+pub fn disconnect(hub: &mut [u32], region: &mut [u8], records: u64, id: u64) {
+    let s = hub::disconnect(hub, region, records, id);
+    served(hub, s);
 }
 
 // The bytes of a short buffer, or the one value that all bytes of a long one have.

@@ -47,12 +47,9 @@ fn lent_now(kind: Kind, n: Numbers, lent: Lent) -> Lent {
 
 fn on_hub(kind: Kind, n: Numbers, hub: &mut [u32]) {
     match kind {
-        Kind::Connect | Kind::ConfigurationWrite | Kind::MsixWrite => {
-            print::done(calls::change(kind, hub, n))
-        }
-        Kind::ConfigurationRead | Kind::RegisterRead | Kind::MsixRead => {
-            print::value(calls::read(kind, hub, n))
-        }
+        Kind::Connect => print::done(hub::connect(hub, n.0)),
+        Kind::Write(space) => print::done(calls::write(space, hub, n)),
+        Kind::Read(space) => print::value(calls::read(space, hub, n)),
         Kind::Question => print::section(hub::section_question(hub, n.2, n.1, n.0)),
         Kind::Changed | Kind::Cut => calls::every(hub),
         _ => {}
@@ -62,9 +59,9 @@ fn on_hub(kind: Kind, n: Numbers, hub: &mut [u32]) {
 fn answered(kind: Kind, n: Numbers, hub: &mut [u32], region: &mut [u8], records: u64) {
     match kind {
         Kind::SetUp | Kind::Again => calls::set_up(hub, region, n),
-        Kind::RegisterWrite | Kind::Reset | Kind::Disconnect => {
-            calls::announce(kind, hub, region, records, n)
-        }
+        Kind::RegisterWrite => calls::register_write(hub, region, records, n),
+        Kind::Reset => calls::reset(hub, region, records, n.0),
+        Kind::Disconnect => calls::disconnect(hub, region, records, n.0),
         Kind::Load => calls::load(hub, region, n),
         Kind::Store => calls::store(hub, region, n),
         _ => on_hub(kind, n, hub),
@@ -123,12 +120,7 @@ fn ending(kind: Kind, words: bool, region: bool) -> usize {
             }
             print::LINE_END
         }
-        Kind::ConfigurationWrite
-        | Kind::MsixWrite
-        | Kind::RegisterWrite
-        | Kind::Reset
-        | Kind::Disconnect
-        | Kind::Store => {
+        Kind::Write(_) | Kind::RegisterWrite | Kind::Reset | Kind::Disconnect | Kind::Store => {
             if words & region {
                 return print::UNCHANGED;
             }

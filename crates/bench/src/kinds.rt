@@ -11,14 +11,12 @@ pub enum Kind {
     SetUp,
     Again,
     Connect,
-    Disconnect,
-    Reset,
-    ConfigurationRead,
-    RegisterRead,
-    MsixRead,
-    ConfigurationWrite,
+    Read(Space),
+    Write(Space),
+    // the calls to which a delivery table is lent
     RegisterWrite,
-    MsixWrite,
+    Reset,
+    Disconnect,
     Question,
     Load,
     Store,
@@ -26,6 +24,12 @@ pub enum Kind {
     Cut,
     Changed,
     Made,
+}
+
+pub enum Space {
+    Configuration,
+    Registers,
+    Msix,
 }
 
 // The names of the words that a case puts by hand are many, and `=` tells whether it is for this case alone.
@@ -65,12 +69,12 @@ fn named(line: &[u8], name: usize) -> Kind {
         8 => Kind::Load,
         9 => Kind::Store,
         10 => Kind::Cut,
-        11 => Kind::ConfigurationRead,
-        12 => Kind::RegisterRead,
-        13 => Kind::MsixRead,
-        14 => Kind::ConfigurationWrite,
+        11 => Kind::Read(Space::Configuration),
+        12 => Kind::Read(Space::Registers),
+        13 => Kind::Read(Space::Msix),
+        14 => Kind::Write(Space::Configuration),
         15 => Kind::RegisterWrite,
-        16 => Kind::MsixWrite,
+        16 => Kind::Write(Space::Msix),
         _ => put_by_hand(line),
     }
 }
