@@ -13,7 +13,7 @@ use borrow.Rule.Slice.PartMut.{putMid}
 use Rattle.common.specs.Lists.{over}
 use Rattle.common.specs.Streams.{Fed, fedTo, fedAll}
 use Rattle.playback.proofs.OverLaws.{length-over, nothing-over, over-then}
-use Rattle.playback.proofs.StreamLaws.{fed-append}
+use Rattle.common.proofs.StreamLaws.{fed-append}
 use Rattle.playback.specs.declared.Progress.{Progress}
 use Rattle.playback.specs.Answers.{longest}
 use Rattle.playback.specs.Player.{Player, fed}

@@ -1,4 +1,5 @@
 pub mod CallLaws
+pub mod Cutting
 pub mod DeliveryLaws
 pub mod FeedLaws
 pub mod FieldLaws
@@ -8,4 +9,3 @@ pub mod LentLaws
 pub mod OverLaws
 pub mod RecordLaws
 pub mod SetUpLaws
-pub mod StreamLaws

@@ -51,7 +51,7 @@ unfolding hubWords
 hub-room n m h k = let p : n * m ≤ maxPeers * maxVectors = mul-le-mul h k in omega arith
 
 -- no words are the all-zero hub
-empty-hub : hubOf [] ≡ zeroHub
+pub empty-hub : hubOf [] ≡ zeroHub
 unfolding hubOf fits hubWords
 empty-hub = rw (every-false (leb 0 maxPeers ∷ leb 0 maxVectors ∷ eqb 0 10 ∷ []) 2 refl)
 

@@ -38,7 +38,7 @@ valued value = 0x82 ∷ bytes 4 value
 unfoldable pub replied : (number : ℕ) → (accepted : List ℕ) → List ℕ
 replied number accepted = cond (eqb number 0) accepted (refusedBy number)
 
--- the longest answer: done, and a delivery to each peer
+-- no answer is longer: done, and a delivery to each peer
 abbrev pub longest : ℕ
 longest = 1 + 17 * maxPeers
 

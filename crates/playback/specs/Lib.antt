@@ -1,5 +1,5 @@
 pub mod Log
 pub mod Answers
 pub mod Player
-pub mod Cutting
 pub mod Promises
+pub mod Cutting

@@ -27,7 +27,7 @@ after a = fedTo (player (a .world) [] (a .stops)) (a .written)
 unfoldable pub come : World → List ℕ → Fed Player
 come w r = cond (whole r) (after (answer w (requestOf (kindOf r) r))) (fedTo (player w r false) [])
 
--- one byte; 'an unknown kind gives 85', and stops
+-- one byte; 'both stop': nothing is read after an unknown kind
 unfoldable pub fed : Player → ℕ → Fed Player
 fed p byte = cond (p .stopped) (fedTo p []) (come (p .world) (p .held ++ (byte ∷ [])))
 

@@ -1,6 +1,6 @@
 -- What the player's functions promise: the memory that they are lent, with the progress, is a player, and goes on as the definition
 -- of one byte says.
-use Prim.Native.Nat.{ℕ, zero, suc, _-_, _≤_, _<_}
+use Prim.Native.Nat.{ℕ, suc, _-_, _≤_, _<_}
 use mathlib.Core.Bool.{Bool, cond, not}
 use mathlib.Core.List.{List, [], _∷_}
 use mathlib.Core.Path.{_≡_}
@@ -13,8 +13,7 @@ use Rattle.device.specs.Sizes.{maxPeers, maxVectors}
 use Rattle.device.specs.World.{World, world}
 use Rattle.playback.specs.declared.Progress.{Progress}
 use Rattle.playback.specs.declared.Report.{Report}
-use Rattle.playback.specs.declared.Taken.{Taken}
-use Rattle.playback.specs.Answers.{Answer, answer, longest, maxTotal}
+use Rattle.playback.specs.Answers.{answer, longest, maxTotal}
 use Rattle.playback.specs.Log.{Request, longestRecord}
 use Rattle.playback.specs.Player.{Player, player, fed, ending}
 use Rattle.words.specs.Layout.{hubWords, hubOf}
@@ -23,7 +22,8 @@ use Rattle.words.specs.Layout.{hubWords, hubOf}
 abbrev pub worldIn : (hub region : List ℕ) → (words bytes : ℕ) → World
 worldIn hub region words bytes = world (hubOf (take words hub)) (take bytes region)
 
--- The player that lent memory and progress are. What lies behind the parts in use is free.
+-- The player that lent memory and progress are. What lies behind the parts in use is free, and so is the number of words that are
+-- no hub.
 abbrev pub playerIn : (hub region held : List ℕ) → Progress → Player
 playerIn hub region held p = player (worldIn hub region (p .words) (p .bytes)) (take (p .held) held) (p .stopped)
 
@@ -35,6 +35,18 @@ pub record Lent (hub region held : List ℕ) (p : Progress) : Type 0 where
   pub words : p .words ≤ length hub
   pub bytes : p .bytes ≤ length region
   pub few : p .held < length held
+
+-- the same as a test
+unfoldable pub isLent : (hub region held : List ℕ) → Progress → Bool
+isLent hub region held p =
+    every
+    (eqb (length hub) (hubWords maxPeers maxVectors)
+    ∷ eqb (length region) maxTotal
+    ∷ eqb (length held) longestRecord
+    ∷ leb (p .words) (length hub)
+    ∷ leb (p .bytes) (length region)
+    ∷ ltb (p .held) (length held)
+    ∷ [])
 
 -- Bytes written to the front of a buffer, which has room for them, and their number.
 pub record Writes (before after written : List ℕ) (n : ℕ) : Type 0 where
@@ -66,18 +78,7 @@ pub record Feeds (p : Player) (hub region held piece out outAfter : List ℕ) (r
   pub goes : Goes hub region held out outAfter (r .progress) (r .written) (fedAll fed p (take (r .taken) piece))
 
 -- 10 for memory of other lengths, or a progress that does not lie within it; then 11 for a buffer without room for the longest
--- answer, from which no byte would be taken
-unfoldable pub isLent : (hub region held : List ℕ) → Progress → Bool
-isLent hub region held p =
-    every
-    (eqb (length hub) (hubWords maxPeers maxVectors)
-    ∷ eqb (length region) maxTotal
-    ∷ eqb (length held) longestRecord
-    ∷ leb (p .words) (length hub)
-    ∷ leb (p .bytes) (length region)
-    ∷ ltb (p .held) (length held)
-    ∷ [])
-
+-- answer, in which no byte would be taken
 unfoldable pub refusalOf : (hub region held : List ℕ) → Progress → (room : ℕ) → ℕ
 refusalOf hub region held p room =
     first (row 10 (not (isLent hub region held p)) ∷ row 11 (ltb room longest) ∷ [])

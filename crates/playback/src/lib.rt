@@ -6,11 +6,11 @@ mod numbers;
 mod records;
 
 ghost use mathlib.Core.Path.{_≡_};
-ghost use Prim.Native.Nat.{_≤_};
-ghost use mathlib.Core.Bool.{false};
+ghost use Prim.Native.Nat.{ℕ, _≤_};
+ghost use mathlib.Core.List.{List};
 ghost use lib.ListN.{length};
 ghost use Rattle.playback.specs.Answers.{longest};
-ghost use Rattle.playback.specs.Player.{fed};
+ghost use Rattle.playback.specs.Player.{fed, fresh};
 ghost use Rattle.playback.specs.Promises.{Lent, Goes, Feeds, Refuses, Ends, playerIn, isLent, refusalOf};
 
 // Where a player stands, beside what its lent memory holds.
@@ -44,9 +44,9 @@ pub const RECORD_BYTES: usize = 39;
 
 pub const REGION_BYTES: usize = 32768;
 
-// Nothing held, no hub.
+// Nothing held, no hub: whatever the lent memory holds.
 pub fn start() -> Progress
-    ensures { λ r. ⌜ r ≡ record { words = 0; bytes = 0; held = 0; stopped = false } ⌝ }
+    ensures { λ r. ⌜ ((hub region held : List ℕ) → playerIn hub region held r ≡ fresh) ⌝ }
 {
     Progress {
         words: 0,
@@ -56,7 +56,7 @@ pub fn start() -> Progress
     }
 }
 
-// The bytes of the longest answer: done, and a delivery to each peer.
+// No answer has more bytes: done, and a delivery to each peer.
 pub fn longest_answer() -> usize
     ensures { λ r. ⌜ r ≡ longest ⌝ }
 {

@@ -25,7 +25,7 @@ ghost use Rattle.playback.specs.Promises;
 // The bodies of kind 00 to 0B.
 const BODIES: [u8; 12] = [38, 2, 2, 2, 5, 9, 4, 8, 4, 8, 6, 7];
 
-// A record's length: the kind and its body. An unknown kind has none.
+// A record's length: the kind and its body. An unknown kind has no body.
 pub fn length(kind: u8) -> usize
     ensures { λ r. ⌜ r ≡ recordLength kind ⌝ }
 {

@@ -3,25 +3,35 @@
 use libc::STDIN_FILENO;
 use libc::STDOUT_FILENO;
 use playback::Progress;
+ghost use mathlib.Core.Path.{_≡_};
 ghost use Prim.Native.Nat.{_≤_};
 
+// What has been read is played: whether there is more to read.
 struct Turn {
     progress: Progress,
     more: bool,
 }
 
 fn least(a: usize, b: usize) -> usize
-    ensures { λ r. ⌜ r ≤ b ⌝ }
+    ensures { λ r. ⌜ (r ≤ b) × (a ≤ b → r ≡ a) ⌝ }
 {
     if a < b { a } else { b }
 }
 
-fn write_front(out: &[u8], count: usize) {
+fn write_front(out: &[u8], count: usize) -> bool {
     let n = least(count, out.len());
-    io::write_all(STDOUT_FILENO, &out[..n]);
+    io::write_all(STDOUT_FILENO, &out[..n])
 }
 
-// Feeds a piece whole. Where its answers need more room than the buffer has, it takes several turns.
+fn ended(progress: Progress) -> Turn {
+    Turn {
+        progress,
+        more: false,
+    }
+}
+
+// Feeds a piece. Where its answers need more room than the buffer has, it takes several turns. There is no more to read after an
+// unknown kind, nor where the answers cannot be written.
 fn play(
     hub: &mut [u32],
     region: &mut [u8],
@@ -29,23 +39,26 @@ fn play(
     progress: Progress,
     piece: &[u8],
     out: &mut [u8],
-) -> Progress {
+) -> Turn {
     let mut p = progress;
     let mut at = 0;
     while at < piece.len() {
         let r = playback::feed(hub, region, held, p, &piece[at..], out);
         p = r.progress;
-        write_front(out, r.written);
         let taken = least(r.taken, piece.len() - at);
-        if taken == 0 {
-            return p;
+        let written = write_front(out, r.written);
+        if !written | p.stopped | (taken == 0) {
+            return ended(p);
         }
         at += taken;
     }
-    p
+    Turn {
+        progress: p,
+        more: true,
+    }
 }
 
-// Reads once and plays what has come. At the end of the input, or where reading fails, there is no further turn.
+// Reads once and plays what has come. The end of the input, and a failed read, end the log.
 fn read_and_play(
     hub: &mut [u32],
     region: &mut [u8],
@@ -58,17 +71,10 @@ fn read_and_play(
     if got <= 0 {
         let r = playback::finish(hub, region, held, p, out);
         write_front(out, r.written);
-        return Turn {
-            progress: p,
-            more: false,
-        };
+        return ended(p);
     }
     let n = io::count(got, piece);
-    let progress = play(hub, region, held, p, &piece[..n], out);
-    Turn {
-        progress,
-        more: true,
-    }
+    play(hub, region, held, p, &piece[..n], out)
 }
 
 // A proved loop has to end, and nothing says that the input does: no run uses up so many turns.

@@ -1,60 +1,43 @@
 -- `playback::feed` meets its contract.
-use mathlib.Core.Path.{_≡_, refl, sym, _∙_}
+use mathlib.Core.Path.{refl, sym, _∙_}
 use borrow.Author.Needs.{needs}
 use Rattle.playback.proofs.feed.Statement.{statement}
 use Rattle.playback.proofs.feed.Tie as tie
-use Rattle.playback.proofs.feed.Reads as reads
-use Rattle.playback.proofs.feed.Lts as lts
-use Rattle.playback.proofs.feed_lent.Reads as feed-lent-reads
-use Rattle.playback.proofs.refusal.Reads as refusal-reads
-use Rattle.playback.proofs.reported.Reads as reported-reads
 
--- src/lib.rt:179:9
 refusal-requires : tie.Need-refusal-requires
 refusal-requires c κs = search needs
 
--- src/lib.rt:181:9
 reported-requires : tie.Need-reported-requires
 reported-requires c κs = search needs
 
--- src/lib.rt:181:9
 same-length : tie.Need-same-length
 same-length c = search needs
 
--- src/lib.rt:181:9
 same-length-2 : tie.Need-same-length-2
 same-length-2 c = search needs
 
--- src/lib.rt:181:9
 same-length-3 : tie.Need-same-length-3
 same-length-3 c = search needs
 
--- src/lib.rt:181:9
 returns : tie.Need-returns
 returns c = rw (c .reported .ensures)
     (c .before .before .refusal .ensures .0, (λ h. record { hubKept = refl; regionKept = refl; heldKept = refl; outKept = refl; progress = refl; taken = refl; written = refl }, λ z. absurd (c .before .if1 .taken z)))
 
--- src/lib.rt:183:5
 feed-lent-requires : tie.Need-feed-lent-requires
 feed-lent-requires c κs = c .before .before .before .before .before .refusal .ensures .1 (c .before .before .before .before .if1 .left)
 
--- src/lib.rt:167:1
 same-length-4 : tie.Need-same-length-4
 same-length-4 c = search needs
 
--- src/lib.rt:167:1
 same-length-5 : tie.Need-same-length-5
 same-length-5 c = search needs
 
--- src/lib.rt:167:1
 same-length-6 : tie.Need-same-length-6
 same-length-6 c = search needs
 
--- src/lib.rt:167:1
 same-length-7 : tie.Need-same-length-7
 same-length-7 c = search needs
 
--- src/lib.rt:167:1
 returns-2 : tie.Need-returns-2
 returns-2 c =
     let f = c .before .before .before .before .before .before .before .before .feed-lent .ensures in

@@ -1,21 +1,17 @@
 -- `playback::feed_lent` meets its contract. The loop's invariant: so many bytes of the piece are fed, and the rest is left to be taken.
-use Rattle.playback.specs.Promises.{playerIn}
-use Rattle.playback.specs.Answers.{longest}
-use Rattle.playback.proofs.FeedLaws.{FedSoFar, fed-none, same-room, fed-more, fed-end}
-use Rattle.common.proofs.TestLaws.{and-left, and-right}
-use borrow.Author.Tests.{ltb-true, leb-true}
-use borrow.Author.Needs.{needs}
-use lib.Dec.{leb, ltb}
-use lib.ListN.{length, take, drop, length-take, length-drop}
+use Prim.Native.Nat.{_-_, _≤_, _<_}
 use mathlib.Core.Path.{_≡_, refl, sym, _∙_}
 use native.Mathlib.Omega.{arith}
-use Prim.Native.Nat.{_+_, _-_, _≤_, _<_}
+use lib.Dec.{leb, ltb}
+use lib.ListN.{length, take, drop, length-take, length-drop}
+use borrow.Author.Needs.{needs}
+use borrow.Author.Tests.{ltb-true, leb-true}
+use Rattle.common.proofs.TestLaws.{and-left, and-right}
+use Rattle.playback.proofs.FeedLaws.{FedSoFar, fed-none, same-room, fed-more, fed-end}
+use Rattle.playback.specs.Answers.{longest}
+use Rattle.playback.specs.Promises.{playerIn}
 use Rattle.playback.proofs.feed_lent.Statement.{statement}
 use Rattle.playback.proofs.feed_lent.Tie as tie
-use Rattle.playback.proofs.feed_lent.Reads as reads
-use Rattle.playback.proofs.feed_lent.Lts as lts
-use Rattle.playback.proofs.longest_answer.Reads as longest-answer-reads
-use Rattle.playback.proofs.take_byte.Reads as take-byte-reads
 
 abbrev Inv-loop : tie.InvT-loop
 Inv-loop hub₀ region₀ held₀ piece out₀ last p₀ i₀ at₀ hub region held out p i at =
@@ -24,23 +20,18 @@ Inv-loop hub₀ region₀ held₀ piece out₀ last p₀ i₀ at₀ hub region h
 abbrev μ-loop : tie.MeasureT-loop
 μ-loop hub₀ region₀ held₀ piece out₀ last p₀ i₀ at₀ hub region held out p i at = length piece - i
 
--- src/lib.rt:147:28
 longest-answer-requires : tie.Need-longest-answer-requires Inv-loop μ-loop
 longest-answer-requires c κs = search needs
 
--- src/lib.rt:147:16
 sub-last : tie.Need-sub-last Inv-loop μ-loop
 sub-last c = omega (arith, c .longest-answer .ensures, c .before .before .before .before .before .before .pre)
 
--- src/lib.rt:151:5
 loop-holds : tie.Need-loop-holds Inv-loop μ-loop
 loop-holds c = fed-none _ _ _ _ _ _ (c .before .before .before .before .before .before .pre .0)
 
--- src/lib.rt:152:49
 shared-slice-read-take-byte : tie.Need-shared-slice-read-take-byte Inv-loop μ-loop
 shared-slice-read-take-byte c = ltb-true _ _ (and-left (ltb (c .before .before .before .before .before .loop .i) (length (c .before .before .before .before .before .before .before .before .before .before .before .before .args .piece .now))) (leb (c .before .before .before .before .before .loop .at) (length (c .before .before .before .before .before .before .before .before .before .before .before .before .args .out .now) - c .before .before .before .before .before .before .longest-answer .result)) (c .before .before .before .before .loop-test .taken))
 
--- src/lib.rt:152:59
 sub-take-byte : tie.Need-sub-take-byte Inv-loop μ-loop
 sub-take-byte c =
     let l = c .before .before .before .before .before .loop .inv in
@@ -51,7 +42,6 @@ sub-take-byte c =
     let room = c .before .before .before .before .before .before .before .before .before .before .before .before .pre .1 in
     omega arith
 
--- src/lib.rt:152:59
 part-take-byte-start : tie.Need-part-take-byte-start Inv-loop μ-loop
 part-take-byte-start c =
     let l = c .before .before .before .before .before .loop .inv in
@@ -62,11 +52,9 @@ part-take-byte-start c =
     let room = c .before .before .before .before .before .before .before .before .before .before .before .before .pre .1 in
     omega arith
 
--- src/lib.rt:152:59
 part-take-byte-end : tie.Need-part-take-byte-end Inv-loop μ-loop
 part-take-byte-end c = search needs
 
--- src/lib.rt:152:13
 take-byte-requires : tie.Need-take-byte-requires Inv-loop μ-loop
 take-byte-requires c κs =
     let l = c .before .before .before .before .before .before .loop .inv in
@@ -77,7 +65,6 @@ take-byte-requires c κs =
     let room = c .before .before .before .before .before .before .before .before .before .before .before .before .before .pre .1 in
     (l .goes .lent, simp (length-take, length-drop) (omega arith))
 
--- src/lib.rt:154:9
 add-at : tie.Need-add-at Inv-loop μ-loop
 add-at c =
     let l = c .before .before .before .before .before .before .before .before .before .before .before .before .before .before .before .before .before .loop .inv in
@@ -89,7 +76,6 @@ add-at c =
     let part : length (take (length (c .before .before .before .before .before .before .before .before .before .before .before .before .before .before .before .before .before .loop .out) - c .before .before .before .before .before .before .before .before .before .before .before .before .before .before .before .before .before .loop .at) (drop (c .before .before .before .before .before .before .before .before .before .before .before .before .before .before .before .before .before .loop .at) (c .before .before .before .before .before .before .before .before .before .before .before .before .before .before .before .before .before .loop .out))) ≤ length (c .before .before .before .before .before .before .before .before .before .before .before .before .before .before .before .before .before .loop .out) - c .before .before .before .before .before .before .before .before .before .before .before .before .before .before .before .before .before .loop .at = simp (length-take, length-drop) (omega arith) in
     omega (arith, part, c .before .before .before .before .before .before .before .before .before .before .take-byte .ensures .written .fits, c .before .before .before .before .before .before .before .before .before .before .before .before .before .before .before .before .before .before .before .before .before .before .before .before .good .1 .1 .1 .1 .1 .0)
 
--- src/lib.rt:155:9
 add-i : tie.Need-add-i Inv-loop μ-loop
 add-i c =
     let l = c .before .before .before .before .before .before .before .before .before .before .before .before .before .before .before .before .before .loop .inv in
@@ -100,7 +86,6 @@ add-i c =
     let room = c .before .before .before .before .before .before .before .before .before .before .before .before .before .before .before .before .before .before .before .before .before .before .before .before .pre .1 in
     omega (arith, c .before .before .before .before .before .before .before .before .before .before .before .before .before .before .before .before .before .before .before .before .before .before .before .before .good .1 .1 .1 .1 .0 .0)
 
--- src/lib.rt:151:5
 loop-less : tie.Need-loop-less Inv-loop μ-loop
 loop-less c =
     let l = c .before .before .before .before .before .before .before .before .before .before .before .before .before .before .before .before .before .loop .inv in
@@ -111,7 +96,6 @@ loop-less c =
     let room = c .before .before .before .before .before .before .before .before .before .before .before .before .before .before .before .before .before .before .before .before .before .before .before .before .pre .1 in
     omega arith
 
--- src/lib.rt:151:5
 loop-again : tie.Need-loop-again Inv-loop μ-loop
 loop-again c =
     let l = c .before .before .before .before .before .before .before .before .before .before .before .before .before .before .before .before .before .loop .inv in
@@ -122,23 +106,18 @@ loop-again c =
     let room = c .before .before .before .before .before .before .before .before .before .before .before .before .before .before .before .before .before .before .before .before .before .before .before .before .pre .1 in
     fed-more (playerIn (c .before .before .before .before .before .before .before .before .before .before .before .before .before .before .before .before .before .before .before .before .before .before .before .before .args .hub .now) (c .before .before .before .before .before .before .before .before .before .before .before .before .before .before .before .before .before .before .before .before .before .before .before .before .args .region .now) (c .before .before .before .before .before .before .before .before .before .before .before .before .before .before .before .before .before .before .before .before .before .before .before .before .args .held .now) (c .before .before .before .before .before .before .before .before .before .before .before .before .before .before .before .before .before .before .before .before .before .before .before .before .args .progress)) (c .before .before .before .before .before .before .before .before .before .before .before .before .before .before .before .before .before .loop .hub) (c .before .before .before .before .before .before .before .before .before .before .before .before .before .before .before .before .before .loop .region) (c .before .before .before .before .before .before .before .before .before .before .before .before .before .before .before .before .before .loop .held) (c .before .before .before .before .before .before .before .before .before .before .before .before .before .before .before .before .before .before .before .before .before .before .before .before .args .piece .now) (c .before .before .before .before .before .before .before .before .before .before .before .before .before .before .before .before .before .before .before .before .before .before .before .before .args .out .now) (c .before .before .before .before .before .before .before .before .before .before .before .before .before .before .before .before .before .loop .out) (c .before .before .before .before .before .before .before .before .before .before .before .before .before .before .before .before .before .loop .p) (c .before .before .before .before .before .before .before .before .before .before .before .before .before .before .before .before .before .loop .i) (c .before .before .before .before .before .before .before .before .before .before .before .before .before .before .before .before .before .loop .at) l _ _ _ _ _ _ i (omega arith) (c .before .before .before .before .before .before .before .before .before .before .take-byte .ensures)
 
--- src/lib.rt:135:1
 same-length : tie.Need-same-length Inv-loop μ-loop
 same-length c = c .before .loop .inv .goes .lent .hubLength ∙ sym (c .before .before .before .before .before .before .before .before .pre .0 .hubLength)
 
--- src/lib.rt:135:1
 same-length-2 : tie.Need-same-length-2 Inv-loop μ-loop
 same-length-2 c = c .before .loop .inv .goes .lent .regionLength ∙ sym (c .before .before .before .before .before .before .before .before .pre .0 .regionLength)
 
--- src/lib.rt:135:1
 same-length-3 : tie.Need-same-length-3 Inv-loop μ-loop
 same-length-3 c = c .before .loop .inv .goes .lent .heldLength ∙ sym (c .before .before .before .before .before .before .before .before .pre .0 .heldLength)
 
--- src/lib.rt:135:1
 same-length-4 : tie.Need-same-length-4 Inv-loop μ-loop
 same-length-4 c = same-room (playerIn (c .before .before .before .before .before .before .before .before .args .hub .now) (c .before .before .before .before .before .before .before .before .args .region .now) (c .before .before .before .before .before .before .before .before .args .held .now) (c .before .before .before .before .before .before .before .before .args .progress)) (c .before .loop .hub) (c .before .loop .region) (c .before .loop .held) (c .before .before .before .before .before .before .before .before .args .piece .now) (c .before .before .before .before .before .before .before .before .args .out .now) (c .before .loop .out) (c .before .loop .p) (c .before .loop .i) (c .before .loop .at) (c .before .loop .inv)
 
--- src/lib.rt:135:1
 returns : tie.Need-returns Inv-loop μ-loop
 returns c =
     let last : length (c .before .before .before .before .before .before .before .before .args .out .now) - c .before .before .longest-answer .result ≡ length (c .before .before .before .before .before .before .before .before .args .out .now) - longest = rw (c .before .before .longest-answer .ensures) in

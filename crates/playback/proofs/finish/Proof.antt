@@ -1,41 +1,32 @@
 -- `playback::finish` meets its contract.
-use Rattle.playback.specs.Promises.{playerIn}
-use Rattle.playback.specs.Player.{inside}
-use Rattle.playback.proofs.OverLaws.{nothing-over, one-over}
-use Rattle.playback.proofs.LentLaws.{inside-is}
-use borrow.Author.Tests.{ne-eqb, not-true, not-false}
-use lib.ListN.{length}
-use mathlib.Core.Path.{_≡_, refl, sym, _∙_}
-use mathlib.Core.Bool.{true, false}
-use native.Mathlib.Omega.{arith}
 use Prim.Native.Nat.{_≤_}
+use mathlib.Core.Bool.{true, false}
+use mathlib.Core.Path.{_≡_, refl, sym, _∙_}
+use native.Mathlib.Omega.{arith}
+use lib.ListN.{length}
 use borrow.Author.Needs.{needs}
+use borrow.Author.Tests.{ne-eqb, not-true, not-false}
+use Rattle.playback.proofs.LentLaws.{inside-is}
+use Rattle.playback.proofs.OverLaws.{nothing-over, one-over}
+use Rattle.playback.specs.Player.{inside}
+use Rattle.playback.specs.Promises.{playerIn}
 use Rattle.playback.proofs.finish.Statement.{statement}
 use Rattle.playback.proofs.finish.Tie as tie
-use Rattle.playback.proofs.finish.Reads as reads
-use Rattle.playback.proofs.finish.Lts as lts
-use Rattle.playback.proofs.refusal.Reads as refusal-reads
-use Rattle.playback.proofs.reported.Reads as reported-reads
 
--- src/lib.rt:190:9
 refusal-requires : tie.Need-refusal-requires
 refusal-requires c κs = search needs
 
--- src/lib.rt:192:9
 reported-requires : tie.Need-reported-requires
 reported-requires c κs = search needs
 
--- src/lib.rt:192:9
 returns : tie.Need-returns
 returns c =
     rw (c .reported .ensures)
     (record { number = c .before .before .refusal .ensures .0; progress = refl; taken = refl; written = rw (ne-eqb _ _ (c .before .if1 .taken)) (record { bytes = sym (nothing-over _); count = refl; fits = omega arith }) })
 
--- src/lib.rt:196:9
 reported-requires-2 : tie.Need-reported-requires-2
 reported-requires-2 c κs = search needs
 
--- src/lib.rt:196:9
 returns-2 : tie.Need-returns-2
 returns-2 c =
     let a = c .before .before .before .before .before .before .before .before .before .before .args in
@@ -43,19 +34,15 @@ returns-2 c =
     rw (c .reported2 .ensures)
     (record { number = sym (c .before .before .before .before .if1 .left) ∙ c .before .before .before .before .before .refusal .ensures .0; progress = refl; taken = refl; written = rw e (record { bytes = sym (nothing-over _); count = refl; fits = omega arith }) })
 
--- src/lib.rt:198:5
 slice-write-out : tie.Need-slice-write-out
 slice-write-out c = omega (arith, c .before .before .before .before .refusal .ensures .1 (c .before .before .before .if1 .left) .1)
 
--- src/lib.rt:199:5
 reported-requires-3 : tie.Need-reported-requires-3
 reported-requires-3 c κs = search needs
 
--- src/lib.rt:187:1
 same-length : tie.Need-same-length
 same-length c = search needs
 
--- src/lib.rt:187:1
 returns-3 : tie.Need-returns-3
 returns-3 c =
     let a = c .before .before .before .before .before .before .before .before .before .before .args in

@@ -1,37 +1,29 @@
 -- `playback::refusal` meets its contract.
-use Rattle.playback.specs.Promises.{isLent}
-use Rattle.playback.specs.Answers.{longest}
-use Rattle.playback.proofs.LentLaws.{lent-facts, not-lent, no-room, no-refusal}
 use Prim.Native.Nat.{_≤_}
-use lib.Dec.{ltb}
-use borrow.Author.Tests.{not-true, not-false, lt-ltb, le-ltb}
 use mathlib.Core.Bool.{true, false}
 use mathlib.Core.Path.{_≡_, sym, _∙_}
 use native.Mathlib.Omega.{arith}
+use lib.Dec.{ltb}
 use borrow.Author.Needs.{needs}
+use borrow.Author.Tests.{not-true, not-false, lt-ltb, le-ltb}
+use Rattle.playback.proofs.LentLaws.{lent-facts, not-lent, no-room, no-refusal}
+use Rattle.playback.specs.Answers.{longest}
+use Rattle.playback.specs.Promises.{isLent}
 use Rattle.playback.proofs.refusal.Statement.{statement}
 use Rattle.playback.proofs.refusal.Tie as tie
-use Rattle.playback.proofs.refusal.Reads as reads
-use Rattle.playback.proofs.refusal.Lts as lts
-use Rattle.playback.proofs.lent.Reads as lent-reads
-use Rattle.playback.proofs.longest_answer.Reads as longest-answer-reads
 
--- src/lib.rt:83:9
 lent-requires : tie.Need-lent-requires
 lent-requires c κs = search needs
 
--- src/lib.rt:85:9
 returns : tie.Need-returns
 returns c =
     let a = c .before .before .before .before .before .args in
     let e : isLent (a .hub .now) (a .region .now) (a .held .now) (a .p) ≡ false = sym (c .before .lent .ensures) ∙ not-true _ (c .if1 .taken) in
     (not-lent (a .hub .now) (a .region .now) (a .held .now) (a .p) (a .room) e, λ z. absurd (omega arith))
 
--- src/lib.rt:87:15
 longest-answer-requires : tie.Need-longest-answer-requires
 longest-answer-requires c κs = search needs
 
--- src/lib.rt:88:9
 returns-2 : tie.Need-returns-2
 returns-2 c =
     let a = c .before .before .before .before .before .before .before .args in
@@ -39,7 +31,6 @@ returns-2 c =
     let l : ltb (a .room) longest ≡ true = lt-ltb _ _ (rw (c .before .longest-answer .ensures) at (c .if2 .taken)) in
     (no-room (a .hub .now) (a .region .now) (a .held .now) (a .p) (a .room) e l, λ z. absurd (omega arith))
 
--- src/lib.rt:79:1
 returns-3 : tie.Need-returns-3
 returns-3 c =
     let a = c .before .before .before .before .before .before .before .args in

@@ -1,79 +1,60 @@
 -- `playback::take_byte` meets its contract.
-use Rattle.playback.specs.Answers.{nowhere}
-use Rattle.playback.proofs.HeldLaws.{record-whole}
-use Rattle.playback.proofs.GoesLaws.{ignored-goes, held-goes, answered-goes}
-use lib.Seq.{length-take-le}
-use lib.ListN.{length-set}
 use mathlib.Core.Path.{sym}
 use native.Mathlib.Omega.{arith}
+use lib.ListN.{length-set}
+use lib.Seq.{length-take-le}
 use borrow.Author.Needs.{needs}
+use Rattle.playback.proofs.GoesLaws.{ignored-goes, held-goes, answered-goes}
+use Rattle.playback.proofs.HeldLaws.{record-whole}
+use Rattle.playback.specs.Answers.{nowhere}
 use Rattle.playback.proofs.take_byte.Statement.{statement}
 use Rattle.playback.proofs.take_byte.Tie as tie
-use Rattle.playback.proofs.take_byte.Reads as reads
-use Rattle.playback.proofs.take_byte.Lts as lts
-use Rattle.playback.proofs.records.answer.Reads as answer-reads
-use Rattle.playback.proofs.records.length.Reads as length-reads
 
--- src/lib.rt:100:9
 returns : tie.Need-returns
 returns c = ignored-goes (c .before .before .before .before .before .args .hub .now) (c .before .before .before .before .before .args .region .now) (c .before .before .before .before .before .args .held .now) (c .before .before .before .before .before .args .out .now) (c .before .before .before .before .before .args .p) (c .before .before .before .before .before .args .byte) (c .before .before .before .before .before .pre .0) (c .if1 .taken)
 
--- src/lib.rt:106:5
 slice-write-held : tie.Need-slice-write-held
 slice-write-held c = search needs
 
--- src/lib.rt:107:13
 add-n : tie.Need-add-n
 add-n c = search needs
 
--- src/lib.rt:108:28
 slice-read-length : tie.Need-slice-read-length
 slice-read-length c = search needs
 
--- src/lib.rt:108:12
 length-requires : tie.Need-length-requires
 length-requires c κs = search needs
 
--- src/lib.rt:115:9
 same-length : tie.Need-same-length
 same-length c = search needs
 
--- src/lib.rt:115:9
 returns-2 : tie.Need-returns-2
 returns-2 c = held-goes (c .before .before .before .before .before .before .before .before .args .hub .now) (c .before .before .before .before .before .before .before .before .args .region .now) (c .before .before .before .before .before .before .before .before .args .held .now) (c .before .before .before .before .before .before .before .before .args .out .now) (c .before .before .before .before .before .before .before .before .args .p) (c .before .before .before .before .before .before .before .before .args .byte) (c .before .before .before .before .before .before .before .before .pre .0) (c .before .before .before .if1 .left) (rw (c .before .length .ensures) at (c .if2 .taken))
 
--- src/lib.rt:120:34
 slice-reshare-prefix-answer : tie.Need-slice-reshare-prefix-answer
 slice-reshare-prefix-answer c = simp length-set (omega (arith, c .before .before .before .before .before .before .before .before .before .before .pre .0 .few))
 
--- src/lib.rt:120:34
 slice-aggregate-answer : tie.Need-slice-aggregate-answer
 slice-aggregate-answer c = sym (length-take-le _ _ (simp length-set (omega (arith, c .before .before .before .before .before .before .before .before .before .before .before .pre .0 .few))))
 
--- src/lib.rt:120:5
 answer-requires : tie.Need-answer-requires
 answer-requires c κs =
     let l = c .before .before .before .before .before .before .before .before .before .before .before .before .pre .0 in
     let w = rw (c .before .before .before .before .before .length .ensures) at (c .before .before .before .before .if2 .left) in
     ((l .hubLength, l .regionLength), ((l .words, l .bytes), (record-whole nowhere (c .before .before .before .before .before .before .before .before .before .before .before .before .args .held .now) (c .before .before .before .before .before .before .before .before .before .before .before .before .args .p .held) (c .before .before .before .before .before .before .before .before .before .before .before .before .args .byte) (l .few) w, c .before .before .before .before .before .before .before .before .before .before .before .before .pre .1)))
 
--- src/lib.rt:87:1
 same-length-2 : tie.Need-same-length-2
 same-length-2 c = search needs
 
--- src/lib.rt:87:1
 same-length-3 : tie.Need-same-length-3
 same-length-3 c = search needs
 
--- src/lib.rt:87:1
 same-length-4 : tie.Need-same-length-4
 same-length-4 c = search needs
 
--- src/lib.rt:87:1
 same-length-5 : tie.Need-same-length-5
 same-length-5 c = search needs
 
--- src/lib.rt:87:1
 returns-3 : tie.Need-returns-3
 returns-3 c = answered-goes (c .before .before .before .before .before .before .before .before .before .before .before .before .before .before .before .before .before .before .before .args .hub .now) (c .before .before .before .before .before .before .before .before .before .before .before .before .before .before .before .before .before .before .before .args .region .now) (c .before .before .before .before .before .before .before .before .before .before .before .before .before .before .before .before .before .before .before .args .held .now) (c .before .before .before .before .before .before .before .before .before .before .before .before .before .before .before .before .before .before .before .args .out .now) (c .before .before .before .before .before .before .before .before .before .before .before .before .before .before .before .before .before .before .before .args .p) (c .before .before .before .before .before .before .before .before .before .before .before .before .before .before .before .before .before .before .before .args .byte) (c .before .before .before .before .before .before .before .before .before .before .before .before .before .before .before .before .before .before .before .pre .0) _ _ _ _ _ (c .before .before .before .before .before .before .before .before .before .before .before .before .before .before .if1 .left) (rw (c .before .before .before .before .before .before .before .before .before .before .before .before .length .ensures) at (c .before .before .before .before .before .before .before .before .before .before .before .if2 .left)) (c .before .before .before .before .before .before .answer .ensures)
 

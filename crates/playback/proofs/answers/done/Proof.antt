@@ -1,37 +1,27 @@
 -- `playback::answers::done` meets its contract.
 use native.Mathlib.Omega.{arith}
-use Rattle.playback.specs.Answers.{replied, allDelivered}
-use borrow.Author.Tests.{eq-eqb, ne-eqb}
 use borrow.Author.Needs.{needs}
+use borrow.Author.Tests.{eq-eqb, ne-eqb}
+use Rattle.playback.specs.Answers.{replied, allDelivered}
 use Rattle.playback.proofs.answers.done.Statement.{statement}
 use Rattle.playback.proofs.answers.done.Tie as tie
-use Rattle.playback.proofs.answers.done.Reads as reads
-use Rattle.playback.proofs.answers.done.Lts as lts
-use Rattle.playback.proofs.answers.refused.Reads as refused-reads
-use Rattle.playback.proofs.numbers.put_one.Reads as put-one-reads
 
--- src/answers.rt:31:9
 refused-requires : tie.Need-refused-requires
 refused-requires c κs = search needs
 
--- src/answers.rt:31:9
 same-length : tie.Need-same-length
 same-length c = search needs
 
--- src/answers.rt:31:9
 returns : tie.Need-returns
 unfolding replied
 returns c = rw (ne-eqb _ _ (c .before .before .before .before .if1 .taken)) (c .before .before .refused .ensures)
 
--- src/answers.rt:33:5
 put-one-requires : tie.Need-put-one-requires
 put-one-requires c κs = search needs
 
--- src/answers.rt:26:1
 same-length-2 : tie.Need-same-length-2
 same-length-2 c = search needs
 
--- src/answers.rt:26:1
 returns-2 : tie.Need-returns-2
 unfolding replied allDelivered
 returns-2 c = record { bytes = rw (eq-eqb _ _ (c .before .before .before .before .if1 .left)) (c .before .before .put-one .ensures); count = rw (eq-eqb _ _ (c .before .before .before .before .if1 .left)); fits = omega arith }

@@ -1,24 +1,20 @@
 -- `playback::answers::put_deliveries` meets its contract. The loop's invariant: the records of the targets passed stand at the front.
-use Rattle.deliveries.specs.Listed.{listed}
-use Rattle.gate.specs.RingOutcome.{sentAt}
-use Rattle.words.specs.Layout.{hubOf}
-use Rattle.common.specs.Lists.{over}
-use borrow.Author.Needs.{needs}
-use lib.ListN.{length, getD, take, drop, length-take, length-drop}
-use Rattle.device.specs.Sizes.{maxPeers}
+use Prim.Native.Nat.{ℕ, _+_, _-_, _*_, _≤_}
 use mathlib.Core.List.{List}
 use mathlib.Core.Path.{_≡_, refl, sym, ap, _∙_}
-use Prim.Native.Nat.{ℕ, _+_, _-_, _*_, _≤_}
-use Rattle.playback.specs.Answers.{delivered, allDelivered}
 use native.Mathlib.Omega.{arith}
+use lib.ListN.{length, getD, take, drop, length-take, length-drop}
+use borrow.Author.Needs.{needs}
+use Rattle.common.specs.Lists.{over}
+use Rattle.deliveries.specs.Listed.{listed}
+use Rattle.device.specs.Sizes.{maxPeers}
+use Rattle.gate.specs.RingOutcome.{sentAt}
+use Rattle.words.specs.Layout.{hubOf}
 use Rattle.playback.proofs.DeliveryLaws.{firstOf, length-first, first-more}
 use Rattle.playback.proofs.OverLaws.{length-over, over-then}
+use Rattle.playback.specs.Answers.{delivered, allDelivered}
 use Rattle.playback.proofs.answers.put_deliveries.Statement.{statement}
 use Rattle.playback.proofs.answers.put_deliveries.Tie as tie
-use Rattle.playback.proofs.answers.put_deliveries.Reads as reads
-use Rattle.playback.proofs.answers.put_deliveries.Lts as lts
-use Rattle.deliveries.proofs.sent.Reads as sent-reads
-use Rattle.playback.proofs.answers.put_delivery.Reads as put-delivery-reads
 
 abbrev Inv-loop : tie.InvT-loop
 Inv-loop hub out₀ n v targets i₀ at₀ out i at =
@@ -33,49 +29,38 @@ Inv-loop hub out₀ n v targets i₀ at₀ out i at =
 abbrev μ-loop : tie.MeasureT-loop
 μ-loop hub out₀ n v targets i₀ at₀ out i at = n - i
 
--- src/answers.rt:91:5
 loop-holds : tie.Need-loop-holds Inv-loop μ-loop
 unfolding over allDelivered
 loop-holds c = (omega arith, omega arith, omega arith, omega arith, omega arith, refl, refl)
 
--- src/answers.rt:92:22
 sub-put-delivery : tie.Need-sub-put-delivery Inv-loop μ-loop
 sub-put-delivery c = omega arith
 
--- src/answers.rt:92:22
 part-put-delivery-start : tie.Need-part-put-delivery-start Inv-loop μ-loop
 part-put-delivery-start c = omega arith
 
--- src/answers.rt:92:22
 part-put-delivery-end : tie.Need-part-put-delivery-end Inv-loop μ-loop
 part-put-delivery-end c = omega arith
 
--- src/answers.rt:92:60
 array-read-sent : tie.Need-array-read-sent Inv-loop μ-loop
 unfolding maxPeers
 array-read-sent c = omega arith
 
--- src/answers.rt:92:38
 sent-requires : tie.Need-sent-requires Inv-loop μ-loop
 sent-requires c κs = search needs
 
--- src/answers.rt:92:9
 put-delivery-requires : tie.Need-put-delivery-requires Inv-loop μ-loop
 put-delivery-requires c κs = simp (length-take, length-drop) (omega arith)
 
--- src/answers.rt:93:9
 add-at : tie.Need-add-at Inv-loop μ-loop
 add-at c = omega arith
 
--- src/answers.rt:94:9
 add-i : tie.Need-add-i Inv-loop μ-loop
 add-i c = omega arith
 
--- src/answers.rt:91:5
 loop-less : tie.Need-loop-less Inv-loop μ-loop
 loop-less c = omega arith
 
--- src/answers.rt:91:5
 loop-again : tie.Need-loop-again Inv-loop μ-loop
 loop-again c =
     let l = c .before .before .before .before .before .before .loop in
@@ -90,11 +75,9 @@ loop-again c =
     let next : length (allDelivered (firstOf hub v targets (l .i + 1))) ≡ 17 * (l .i + 1) = length-first hub v targets (l .i + 1) (omega arith) in
     (omega arith, omega arith, omega arith, omega arith, omega arith, ap length all ∙ length-over _ out₀ (omega arith), all)
 
--- src/answers.rt:82:1
 same-length : tie.Need-same-length Inv-loop μ-loop
 same-length c = c .before .loop .inv .5
 
--- src/answers.rt:82:1
 returns : tie.Need-returns Inv-loop μ-loop
 unfolding listed
 returns c =

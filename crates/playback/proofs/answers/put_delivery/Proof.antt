@@ -1,42 +1,31 @@
 -- `playback::answers::put_delivery` meets its contract: one part is written behind the other.
-use mathlib.Core.Path.{refl}
 use mathlib.Core.List.{[], _∷_}
-use Rattle.playback.specs.Answers.{parts, delivered}
+use mathlib.Core.Path.{refl}
 use native.Mathlib.Omega.{arith}
-use Rattle.playback.proofs.OverLaws.{over-then}
 use borrow.Author.Needs.{needs}
+use Rattle.playback.proofs.OverLaws.{over-then}
+use Rattle.playback.specs.Answers.{parts, delivered}
 use Rattle.playback.proofs.answers.put_delivery.Statement.{statement}
 use Rattle.playback.proofs.answers.put_delivery.Tie as tie
-use Rattle.playback.proofs.answers.put_delivery.Reads as reads
-use Rattle.playback.proofs.answers.put_delivery.Lts as lts
-use Rattle.playback.proofs.answers.put_parts.Reads as put-parts-reads
-use Rattle.playback.proofs.numbers.put_one.Reads as put-one-reads
 
--- src/answers.rt:78:5
 put-one-requires : tie.Need-put-one-requires
 put-one-requires c κs = search needs
 
--- src/answers.rt:79:15
 sub-put-parts : tie.Need-sub-put-parts
 sub-put-parts c = search needs
 
--- src/answers.rt:79:15
 part-put-parts-start : tie.Need-part-put-parts-start
 part-put-parts-start c = search needs
 
--- src/answers.rt:79:15
 part-put-parts-end : tie.Need-part-put-parts-end
 part-put-parts-end c = search needs
 
--- src/answers.rt:79:5
 put-parts-requires : tie.Need-put-parts-requires
 put-parts-requires c κs = search needs
 
--- src/answers.rt:74:1
 same-length : tie.Need-same-length
 same-length c = search needs
 
--- src/answers.rt:74:1
 returns : tie.Need-returns
 unfolding delivered
 returns c =

@@ -1,40 +1,30 @@
 -- `playback::answers::put_ids` meets its contract: one part is written behind the other.
-use Rattle.common.specs.Bytes.{bytes}
-use Rattle.common.proofs.ByteLaws.{length-bytes}
 use native.Mathlib.Omega.{arith}
-use Rattle.playback.proofs.OverLaws.{over-then}
 use borrow.Author.Needs.{needs}
+use Rattle.common.proofs.ByteLaws.{length-bytes}
+use Rattle.common.specs.Bytes.{bytes}
+use Rattle.playback.proofs.OverLaws.{over-then}
 use Rattle.playback.proofs.answers.put_ids.Statement.{statement}
 use Rattle.playback.proofs.answers.put_ids.Tie as tie
-use Rattle.playback.proofs.answers.put_ids.Reads as reads
-use Rattle.playback.proofs.answers.put_ids.Lts as lts
-use Rattle.playback.proofs.numbers.put_two.Reads as put-two-reads
 
--- src/answers.rt:54:5
 put-two-requires : tie.Need-put-two-requires
 put-two-requires c κs = search needs
 
--- src/answers.rt:55:22
 sub-put-two : tie.Need-sub-put-two
 sub-put-two c = search needs
 
--- src/answers.rt:55:22
 part-put-two-start : tie.Need-part-put-two-start
 part-put-two-start c = search needs
 
--- src/answers.rt:55:22
 part-put-two-end : tie.Need-part-put-two-end
 part-put-two-end c = search needs
 
--- src/answers.rt:55:5
 put-two-requires-2 : tie.Need-put-two-requires-2
 put-two-requires-2 c κs = search needs
 
--- src/answers.rt:50:1
 same-length : tie.Need-same-length
 same-length c = search needs
 
--- src/answers.rt:50:1
 returns : tie.Need-returns
 returns c =
     let a = c .before .before .before .before .before .before .before .before .before .args in

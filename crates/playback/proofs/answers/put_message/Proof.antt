@@ -1,41 +1,30 @@
 -- `playback::answers::put_message` meets its contract: one part is written behind the other.
-use Rattle.common.specs.Bytes.{bytes}
-use Rattle.common.proofs.ByteLaws.{length-bytes}
 use native.Mathlib.Omega.{arith}
-use Rattle.playback.proofs.OverLaws.{over-then}
 use borrow.Author.Needs.{needs}
+use Rattle.common.proofs.ByteLaws.{length-bytes}
+use Rattle.common.specs.Bytes.{bytes}
+use Rattle.playback.proofs.OverLaws.{over-then}
 use Rattle.playback.proofs.answers.put_message.Statement.{statement}
 use Rattle.playback.proofs.answers.put_message.Tie as tie
-use Rattle.playback.proofs.answers.put_message.Reads as reads
-use Rattle.playback.proofs.answers.put_message.Lts as lts
-use Rattle.playback.proofs.numbers.put_eight.Reads as put-eight-reads
-use Rattle.playback.proofs.numbers.put_four.Reads as put-four-reads
 
--- src/answers.rt:62:5
 put-eight-requires : tie.Need-put-eight-requires
 put-eight-requires c κs = search needs
 
--- src/answers.rt:63:23
 sub-put-four : tie.Need-sub-put-four
 sub-put-four c = search needs
 
--- src/answers.rt:63:23
 part-put-four-start : tie.Need-part-put-four-start
 part-put-four-start c = search needs
 
--- src/answers.rt:63:23
 part-put-four-end : tie.Need-part-put-four-end
 part-put-four-end c = search needs
 
--- src/answers.rt:63:5
 put-four-requires : tie.Need-put-four-requires
 put-four-requires c κs = search needs
 
--- src/answers.rt:58:1
 same-length : tie.Need-same-length
 same-length c = search needs
 
--- src/answers.rt:58:1
 returns : tie.Need-returns
 returns c =
     let a = c .before .before .before .before .before .before .before .before .before .args in

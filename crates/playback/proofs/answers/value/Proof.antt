@@ -1,61 +1,46 @@
 -- `playback::answers::value` meets its contract: the value stands behind the first byte.
-use lib.ListN.{length}
 use Prim.Native.Nat.{suc}
 use mathlib.Core.List.{[], _∷_}
 use mathlib.Core.Path.{_≡_, refl, sym, ap}
-use Rattle.common.specs.Bytes.{bytes}
-use Rattle.common.proofs.ByteLaws.{length-bytes}
-use Rattle.playback.proofs.OverLaws.{over-then}
 use native.Mathlib.Omega.{arith}
-use Rattle.playback.specs.Answers.{replied, valued}
-use borrow.Author.Tests.{eq-eqb, ne-eqb}
+use lib.ListN.{length}
 use borrow.Author.Needs.{needs}
+use borrow.Author.Tests.{eq-eqb, ne-eqb}
+use Rattle.common.proofs.ByteLaws.{length-bytes}
+use Rattle.common.specs.Bytes.{bytes}
+use Rattle.playback.proofs.OverLaws.{over-then}
+use Rattle.playback.specs.Answers.{replied, valued}
 use Rattle.playback.proofs.answers.value.Statement.{statement}
 use Rattle.playback.proofs.answers.value.Tie as tie
-use Rattle.playback.proofs.answers.value.Reads as reads
-use Rattle.playback.proofs.answers.value.Lts as lts
-use Rattle.playback.proofs.answers.refused.Reads as refused-reads
-use Rattle.playback.proofs.numbers.put_four.Reads as put-four-reads
-use Rattle.playback.proofs.numbers.put_one.Reads as put-one-reads
 
--- src/answers.rt:42:9
 refused-requires : tie.Need-refused-requires
 refused-requires c κs = search needs
 
--- src/answers.rt:42:9
 same-length : tie.Need-same-length
 same-length c = search needs
 
--- src/answers.rt:42:9
 returns : tie.Need-returns
 unfolding replied
 returns c = rw (ne-eqb _ _ (c .before .before .before .before .if1 .taken)) (c .before .before .refused .ensures)
 
--- src/answers.rt:44:5
 put-one-requires : tie.Need-put-one-requires
 put-one-requires c κs = search needs
 
--- src/answers.rt:45:23
 sub-put-four : tie.Need-sub-put-four
 sub-put-four c = search needs
 
--- src/answers.rt:45:23
 part-put-four-start : tie.Need-part-put-four-start
 part-put-four-start c = search needs
 
--- src/answers.rt:45:23
 part-put-four-end : tie.Need-part-put-four-end
 part-put-four-end c = search needs
 
--- src/answers.rt:45:5
 put-four-requires : tie.Need-put-four-requires
 put-four-requires c κs = search needs
 
--- src/answers.rt:37:1
 same-length-2 : tie.Need-same-length-2
 same-length-2 c = search needs
 
--- src/answers.rt:37:1
 returns-2 : tie.Need-returns-2
 unfolding replied
 returns-2 c =

@@ -1,41 +1,29 @@
 -- `playback::calls::msix_read` meets its contract.
-use Rattle.playback.proofs.CallLaws.{reads-answer}
-use Rattle.device.proofs.StepLaws.{readsOnly}
 use mathlib.Core.Path.{refl}
-use Rattle.device.specs.Call.{Act, call}
-use Rattle.device.proofs.SizeLaws.{maxPeers-pos}
 use native.Mathlib.Omega.{arith}
 use borrow.Author.Needs.{needs}
+use Rattle.device.proofs.SizeLaws.{maxPeers-pos}
+use Rattle.device.proofs.StepLaws.{readsOnly}
+use Rattle.device.specs.Call.{Act, call}
+use Rattle.playback.proofs.CallLaws.{reads-answer}
 use Rattle.playback.proofs.calls.msix_read.Statement.{statement}
 use Rattle.playback.proofs.calls.msix_read.Tie as tie
-use Rattle.playback.proofs.calls.msix_read.Reads as reads
-use Rattle.playback.proofs.calls.msix_read.Lts as lts
-use Rattle.hub.proofs.msix_read.Reads as msix-read-reads
-use Rattle.playback.proofs.answers.value.Reads as value-reads
-use Rattle.playback.proofs.calls.id.Reads as id-reads
-use Rattle.playback.proofs.calls.offset.Reads as offset-reads
 
--- src/calls.rt:113:33
 id-requires : tie.Need-id-requires
 id-requires c κs = search needs
 
--- src/calls.rt:113:45
 offset-requires : tie.Need-offset-requires
 offset-requires c κs = search needs
 
--- src/calls.rt:113:9
 msix-read-requires : tie.Need-msix-read-requires
 msix-read-requires c κs = search needs
 
--- src/calls.rt:114:5
 value-requires : tie.Need-value-requires
 value-requires c κs = omega (arith, maxPeers-pos)
 
--- src/calls.rt:109:1
 same-length : tie.Need-same-length
 same-length c = search needs
 
--- src/calls.rt:109:1
 returns : tie.Need-returns
 unfolding readsOnly
 returns c =

@@ -1,51 +1,36 @@
 -- `playback::calls::msix_write` meets its contract.
-use Rattle.playback.proofs.CallLaws.{changes-answer}
-use Rattle.device.proofs.QuietLaws.{mayRing}
-use Rattle.device.specs.Refusal.{lentTo}
 use mathlib.Core.Path.{refl}
-use Rattle.device.specs.Call.{Act, call}
-use Rattle.device.proofs.SizeLaws.{maxPeers-pos}
 use native.Mathlib.Omega.{arith}
 use borrow.Author.Needs.{needs}
+use Rattle.device.proofs.QuietLaws.{mayRing}
+use Rattle.device.proofs.SizeLaws.{maxPeers-pos}
+use Rattle.device.specs.Call.{Act, call}
+use Rattle.device.specs.Refusal.{lentTo}
+use Rattle.playback.proofs.CallLaws.{changes-answer}
 use Rattle.playback.proofs.calls.msix_write.Statement.{statement}
 use Rattle.playback.proofs.calls.msix_write.Tie as tie
-use Rattle.playback.proofs.calls.msix_write.Reads as reads
-use Rattle.playback.proofs.calls.msix_write.Lts as lts
-use Rattle.hub.proofs.msix_write.Reads as msix-write-reads
-use Rattle.playback.proofs.answers.done.Reads as done-reads
-use Rattle.playback.proofs.calls.id.Reads as id-reads
-use Rattle.playback.proofs.calls.offset.Reads as offset-reads
-use Rattle.playback.proofs.numbers.four.Reads as four-reads
 
--- src/calls.rt:121:9
 four-requires : tie.Need-four-requires
 four-requires c κs = search needs
 
--- src/calls.rt:122:34
 id-requires : tie.Need-id-requires
 id-requires c κs = search needs
 
--- src/calls.rt:122:46
 offset-requires : tie.Need-offset-requires
 offset-requires c κs = search needs
 
--- src/calls.rt:122:9
 msix-write-requires : tie.Need-msix-write-requires
 msix-write-requires c κs = search needs
 
--- src/calls.rt:123:5
 done-requires : tie.Need-done-requires
 done-requires c κs = omega (arith, maxPeers-pos)
 
--- src/calls.rt:117:1
 same-length : tie.Need-same-length
 same-length c = search needs
 
--- src/calls.rt:117:1
 same-length-2 : tie.Need-same-length-2
 same-length-2 c = search needs
 
--- src/calls.rt:117:1
 returns : tie.Need-returns
 unfolding lentTo mayRing
 returns c =

@@ -1,50 +1,36 @@
 -- `playback::calls::reset` meets its contract.
-use Rattle.ivshmem.proofs.TableLaws.{can-hand-out, reset-room}
-use Rattle.playback.proofs.CallLaws.{served-answer}
-use Rattle.device.specs.Call.{Act, call}
 use native.Mathlib.Omega.{arith}
 use borrow.Author.Needs.{needs}
+use Rattle.device.specs.Call.{Act, call}
+use Rattle.ivshmem.proofs.TableLaws.{can-hand-out, reset-room}
+use Rattle.playback.proofs.CallLaws.{served-answer}
 use Rattle.playback.proofs.calls.reset.Statement.{statement}
 use Rattle.playback.proofs.calls.reset.Tie as tie
-use Rattle.playback.proofs.calls.reset.Reads as reads
-use Rattle.playback.proofs.calls.reset.Lts as lts
-use Rattle.device.proofs.max_peers.Reads as max-peers-reads
-use Rattle.hub.proofs.reset.Reads as reset-reads
-use Rattle.playback.proofs.answers.served.Reads as served-reads
-use Rattle.playback.proofs.calls.id.Reads as id-reads
 
--- src/calls.rt:66:37
 max-peers-requires : tie.Need-max-peers-requires
 max-peers-requires c κs = search needs
 
--- src/calls.rt:66:65
 id-requires : tie.Need-id-requires
 id-requires c κs = search needs
 
--- src/calls.rt:66:9
 reset-requires : tie.Need-reset-requires
 reset-requires c κs = search needs
 
--- src/calls.rt:69:5
 served-requires : tie.Need-served-requires
 served-requires c κs =
     let a = c .before .before .before .before .before .before .before .before .before .before .before .before .before .before .before .before .before .args in
     let s = can-hand-out (a .hub .now) _ (a .region .now) _ (c .before .before .before .before .before .before .before .before .before .id .result) Act.reset (c .before .before .before .before .before .before .before .before .reset .result) (c .before .before .before .before .before .before .before .before .before .before .max-peers .result) reset-room (c .before .before .before .before .before .before .before .before .reset .ensures) in
     (s .0, rw (← (c .before .before .before .before .before .before .before .before .before .before .max-peers .ensures)) (s .1), omega arith)
 
--- src/calls.rt:62:1
 same-length : tie.Need-same-length
 same-length c = search needs
 
--- src/calls.rt:62:1
 same-length-2 : tie.Need-same-length-2
 same-length-2 c = search needs
 
--- src/calls.rt:62:1
 same-length-3 : tie.Need-same-length-3
 same-length-3 c = search needs
 
--- src/calls.rt:62:1
 returns : tie.Need-returns
 returns c =
     let a = c .before .before .before .before .before .before .before .before .before .before .before .before .before .before .before .before .before .before .before .before .args in

@@ -1,63 +1,47 @@
 -- `playback::calls::store` meets its contract.
+use Prim.Native.Nat.{_-_}
+use mathlib.Core.List.{[], _∷_}
+use mathlib.Core.Path.{_≡_, refl}
+use mathlib.Core.Path.{refl}
+use native.Mathlib.Omega.{arith}
+use lib.ListN.{take, drop}
+use borrow.Author.Needs.{needs}
+use Rattle.device.proofs.QuietLaws.{mayRing}
+use Rattle.device.proofs.SizeLaws.{maxPeers-pos}
+use Rattle.device.specs.Call.{Act, call}
+use Rattle.playback.proofs.CallLaws.{stores-answer}
 use Rattle.playback.proofs.FieldLaws.{one-part}
 use Rattle.playback.specs.Log.{field}
-use mathlib.Core.List.{[], _∷_}
-use Prim.Native.Nat.{_-_}
-use lib.ListN.{take, drop}
-use mathlib.Core.Path.{_≡_, refl}
-use Rattle.playback.proofs.CallLaws.{stores-answer}
-use Rattle.device.proofs.QuietLaws.{mayRing}
-use mathlib.Core.Path.{refl}
-use Rattle.device.specs.Call.{Act, call}
-use Rattle.device.proofs.SizeLaws.{maxPeers-pos}
-use native.Mathlib.Omega.{arith}
-use borrow.Author.Needs.{needs}
 use Rattle.playback.proofs.calls.store.Statement.{statement}
 use Rattle.playback.proofs.calls.store.Tie as tie
-use Rattle.playback.proofs.calls.store.Reads as reads
-use Rattle.playback.proofs.calls.store.Lts as lts
-use Rattle.hub.proofs.store.Reads as store-reads
-use Rattle.playback.proofs.answers.done.Reads as done-reads
-use Rattle.playback.proofs.calls.id.Reads as id-reads
-use Rattle.playback.proofs.calls.shared_offset.Reads as shared-offset-reads
 
--- src/calls.rt:142:9
 id-requires : tie.Need-id-requires
 id-requires c κs = search needs
 
--- src/calls.rt:143:9
 shared-offset-requires : tie.Need-shared-offset-requires
 shared-offset-requires c κs = search needs
 
--- src/calls.rt:144:9
 sub-store : tie.Need-sub-store
 sub-store c = search needs
 
--- src/calls.rt:144:9
 part-store-start : tie.Need-part-store-start
 part-store-start c = search needs
 
--- src/calls.rt:144:9
 part-store-end : tie.Need-part-store-end
 part-store-end c = search needs
 
--- src/calls.rt:139:9
 store-requires : tie.Need-store-requires
 store-requires c κs = search needs
 
--- src/calls.rt:146:5
 done-requires : tie.Need-done-requires
 done-requires c κs = omega (arith, maxPeers-pos)
 
--- src/calls.rt:135:1
 same-length : tie.Need-same-length
 same-length c = search needs
 
--- src/calls.rt:135:1
 same-length-2 : tie.Need-same-length-2
 same-length-2 c = search needs
 
--- src/calls.rt:135:1
 returns : tie.Need-returns
 unfolding mayRing
 returns c =

@@ -2,52 +2,40 @@
 use Prim.Native.Nat.{ℕ, _/_, _%_}
 use mathlib.Core.List.{List}
 use mathlib.Core.Path.{ap, _∙_}
-use Rattle.common.specs.Lists.{over}
-use Rattle.common.specs.Bytes.{bytes}
-use Rattle.common.proofs.ByteLaws.{length-bytes}
 use native.Mathlib.Omega.{arith}
+use borrow.Author.Needs.{needs}
+use Rattle.common.proofs.ByteLaws.{length-bytes}
+use Rattle.common.specs.Bytes.{bytes}
+use Rattle.common.specs.Lists.{over}
 use Rattle.playback.proofs.FieldLaws.{bytes-split}
 use Rattle.playback.proofs.OverLaws.{over-then}
-use borrow.Author.Needs.{needs}
 use Rattle.playback.proofs.numbers.put_eight.Statement.{statement}
 use Rattle.playback.proofs.numbers.put_eight.Tie as tie
-use Rattle.playback.proofs.numbers.put_eight.Reads as reads
-use Rattle.playback.proofs.numbers.put_eight.Lts as lts
-use Rattle.playback.proofs.numbers.put_four.Reads as put-four-reads
 
--- src/numbers.rt:50:19
 cast-put-four : tie.Need-cast-put-four
 cast-put-four c = search needs
 
--- src/numbers.rt:50:5
 put-four-requires : tie.Need-put-four-requires
 put-four-requires c κs = search needs
 
--- src/numbers.rt:51:14
 sub-put-four : tie.Need-sub-put-four
 sub-put-four c = search needs
 
--- src/numbers.rt:51:14
 part-put-four-start : tie.Need-part-put-four-start
 part-put-four-start c = search needs
 
--- src/numbers.rt:51:14
 part-put-four-end : tie.Need-part-put-four-end
 part-put-four-end c = search needs
 
--- src/numbers.rt:51:29
 cast-put-four-2 : tie.Need-cast-put-four-2
 cast-put-four-2 c = search needs
 
--- src/numbers.rt:51:5
 put-four-requires-2 : tie.Need-put-four-requires-2
 put-four-requires-2 c κs = search needs
 
--- src/numbers.rt:46:1
 same-length : tie.Need-same-length
 same-length c = search needs
 
--- src/numbers.rt:46:1
 returns : tie.Need-returns
 returns c =
     let a = c .before .before .before .before .before .before .before .before .before .args in

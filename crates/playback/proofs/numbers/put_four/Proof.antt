@@ -2,52 +2,40 @@
 use Prim.Native.Nat.{ℕ, _/_, _%_}
 use mathlib.Core.List.{List}
 use mathlib.Core.Path.{ap, _∙_}
-use Rattle.common.specs.Lists.{over}
-use Rattle.common.specs.Bytes.{bytes}
-use Rattle.common.proofs.ByteLaws.{length-bytes}
 use native.Mathlib.Omega.{arith}
+use borrow.Author.Needs.{needs}
+use Rattle.common.proofs.ByteLaws.{length-bytes}
+use Rattle.common.specs.Bytes.{bytes}
+use Rattle.common.specs.Lists.{over}
 use Rattle.playback.proofs.FieldLaws.{bytes-split}
 use Rattle.playback.proofs.OverLaws.{over-then}
-use borrow.Author.Needs.{needs}
 use Rattle.playback.proofs.numbers.put_four.Statement.{statement}
 use Rattle.playback.proofs.numbers.put_four.Tie as tie
-use Rattle.playback.proofs.numbers.put_four.Reads as reads
-use Rattle.playback.proofs.numbers.put_four.Lts as lts
-use Rattle.playback.proofs.numbers.put_two.Reads as put-two-reads
 
--- src/numbers.rt:42:18
 cast-put-two : tie.Need-cast-put-two
 cast-put-two c = search needs
 
--- src/numbers.rt:42:5
 put-two-requires : tie.Need-put-two-requires
 put-two-requires c κs = search needs
 
--- src/numbers.rt:43:13
 sub-put-two : tie.Need-sub-put-two
 sub-put-two c = search needs
 
--- src/numbers.rt:43:13
 part-put-two-start : tie.Need-part-put-two-start
 part-put-two-start c = search needs
 
--- src/numbers.rt:43:13
 part-put-two-end : tie.Need-part-put-two-end
 part-put-two-end c = search needs
 
--- src/numbers.rt:43:28
 cast-put-two-2 : tie.Need-cast-put-two-2
 cast-put-two-2 c = search needs
 
--- src/numbers.rt:43:5
 put-two-requires-2 : tie.Need-put-two-requires-2
 put-two-requires-2 c κs = search needs
 
--- src/numbers.rt:38:1
 same-length : tie.Need-same-length
 same-length c = search needs
 
--- src/numbers.rt:38:1
 returns : tie.Need-returns
 returns c =
     let a = c .before .before .before .before .before .before .before .before .before .args in

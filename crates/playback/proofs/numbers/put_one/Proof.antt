@@ -1,20 +1,15 @@
 -- `playback::numbers::put_one` meets its contract.
-use Rattle.playback.proofs.OverLaws.{one-over}
 use borrow.Author.Needs.{needs}
+use Rattle.playback.proofs.OverLaws.{one-over}
 use Rattle.playback.proofs.numbers.put_one.Statement.{statement}
 use Rattle.playback.proofs.numbers.put_one.Tie as tie
-use Rattle.playback.proofs.numbers.put_one.Reads as reads
-use Rattle.playback.proofs.numbers.put_one.Lts as lts
 
--- src/numbers.rt:35:5
 slice-write-out : tie.Need-slice-write-out
 slice-write-out c = search needs
 
--- src/numbers.rt:31:1
 same-length : tie.Need-same-length
 same-length c = search needs
 
--- src/numbers.rt:31:1
 returns : tie.Need-returns
 returns c = one-over (c .args .out .now) (c .args .b) (c .pre)
 

@@ -1,45 +1,35 @@
 -- `playback::numbers::two` meets its contract: the field is its two bytes.
-use Rattle.playback.specs.Log.{field}
-use lib.ListN.{getD}
-use Prim.Native.Nat.{ℕ, _+_, _*_, _/_, _%_}
-use mathlib.Core.Path.{_≡_, refl, sym, ap, _∙_}
+use Prim.Native.Nat.{_+_}
+use mathlib.Core.Path.{_≡_}
 use native.Mathlib.Omega.{arith}
-use Rattle.playback.proofs.FieldLaws.{field-one, field-parts}
+use lib.ListN.{getD}
 use borrow.Author.Needs.{needs}
+use Rattle.playback.proofs.FieldLaws.{field-one, field-parts}
+use Rattle.playback.specs.Log.{field}
 use Rattle.playback.proofs.numbers.two.Statement.{statement}
 use Rattle.playback.proofs.numbers.two.Tie as tie
-use Rattle.playback.proofs.numbers.two.Reads as reads
-use Rattle.playback.proofs.numbers.two.Lts as lts
 
--- src/numbers.rt:13:5
 shared-slice-read-result : tie.Need-shared-slice-read-result
 shared-slice-read-result c = search needs
 
--- src/numbers.rt:13:5
 cast-result : tie.Need-cast-result
 cast-result c = omega (arith, c .shared-slice-known .given (c .before .args .at))
 
--- src/numbers.rt:13:39
 add-result : tie.Need-add-result
 add-result c = search needs
 
--- src/numbers.rt:13:32
 shared-slice-read-result-2 : tie.Need-shared-slice-read-result-2
 shared-slice-read-result-2 c = search needs
 
--- src/numbers.rt:13:32
 cast-result-2 : tie.Need-cast-result-2
 cast-result-2 c = omega (arith, c .before .shared-slice-known .given (c .before .before .args .at), c .shared-slice-known2 .given (c .before .before .args .at + 1))
 
--- src/numbers.rt:13:25
 mul-result : tie.Need-mul-result
 mul-result c = omega (arith, c .before .shared-slice-known .given (c .before .before .args .at), c .shared-slice-known2 .given (c .before .before .args .at + 1))
 
--- src/numbers.rt:13:5
 add-result-2 : tie.Need-add-result-2
 add-result-2 c = omega (arith, c .before .shared-slice-known .given (c .before .before .args .at), c .shared-slice-known2 .given (c .before .before .args .at + 1))
 
--- src/numbers.rt:9:1
 returns : tie.Need-returns
 returns c =
     let a = c .before .before .args in

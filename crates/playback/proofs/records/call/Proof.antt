@@ -1,247 +1,184 @@
 -- `playback::records::call` meets its contract, arm by arm.
-use Rattle.playback.proofs.RecordLaws.{above, eleven}
-use lib.ListN.{getD}
 use mathlib.Core.Path.{_≡_}
-use Rattle.playback.specs.Log.{kindOf, recordLength, requestOf}
-use Rattle.playback.proofs.RecordLaws.{record-some}
 use native.Mathlib.Omega.{arith}
+use lib.ListN.{getD}
 use borrow.Author.Needs.{needs}
+use Rattle.playback.proofs.RecordLaws.{above, eleven}
+use Rattle.playback.proofs.RecordLaws.{record-some}
+use Rattle.playback.specs.Log.{kindOf, recordLength, requestOf}
 use Rattle.playback.proofs.records.call.Statement.{statement}
 use Rattle.playback.proofs.records.call.Tie as tie
-use Rattle.playback.proofs.records.call.Reads as reads
-use Rattle.playback.proofs.records.call.Lts as lts
-use Rattle.playback.proofs.calls.configuration_read.Reads as configuration-read-reads
-use Rattle.playback.proofs.calls.configuration_write.Reads as configuration-write-reads
-use Rattle.playback.proofs.calls.connect.Reads as connect-reads
-use Rattle.playback.proofs.calls.disconnect.Reads as disconnect-reads
-use Rattle.playback.proofs.calls.load.Reads as load-reads
-use Rattle.playback.proofs.calls.msix_read.Reads as msix-read-reads
-use Rattle.playback.proofs.calls.msix_write.Reads as msix-write-reads
-use Rattle.playback.proofs.calls.register_read.Reads as register-read-reads
-use Rattle.playback.proofs.calls.register_write.Reads as register-write-reads
-use Rattle.playback.proofs.calls.reset.Reads as reset-reads
-use Rattle.playback.proofs.calls.store.Reads as store-reads
 
--- src/records.rt:115:16
 shared-slice-read-kind : tie.Need-shared-slice-read-kind
 shared-slice-read-kind c = omega (arith, record-some (kindOf (c .before .before .before .before .before .args .fields .now)), c .before .before .before .before .before .pre)
 
--- src/records.rt:117:17
 connect-requires : tie.Need-connect-requires
 unfolding kindOf recordLength
 connect-requires c κs = (rw (c .before .before .match .keys1) at (c .before .before .before .before .before .before .before .before .pre .1 .0), c .before .before .before .before .before .before .before .before .pre .1 .1)
 
--- src/records.rt:118:17
 disconnect-requires : tie.Need-disconnect-requires
 unfolding kindOf recordLength
 disconnect-requires c κs = (rw (c .before .before .before .match .keys2) at (c .before .before .before .before .before .before .before .before .before .pre .1 .0), c .before .before .before .before .before .before .before .before .before .pre .1 .1)
 
--- src/records.rt:119:17
 reset-requires : tie.Need-reset-requires
 unfolding kindOf recordLength
 reset-requires c κs = (rw (c .before .before .before .match .keys3) at (c .before .before .before .before .before .before .before .before .before .pre .1 .0), c .before .before .before .before .before .before .before .before .before .pre .1 .1)
 
--- src/records.rt:120:17
 configuration-read-requires : tie.Need-configuration-read-requires
 unfolding kindOf recordLength
 configuration-read-requires c κs = (rw (c .before .before .match .keys4) at (c .before .before .before .before .before .before .before .before .pre .1 .0), c .before .before .before .before .before .before .before .before .pre .1 .1)
 
--- src/records.rt:121:17
 configuration-write-requires : tie.Need-configuration-write-requires
 unfolding kindOf recordLength
 configuration-write-requires c κs = (rw (c .before .before .match .keys5) at (c .before .before .before .before .before .before .before .before .pre .1 .0), c .before .before .before .before .before .before .before .before .pre .1 .1)
 
--- src/records.rt:122:17
 register-read-requires : tie.Need-register-read-requires
 unfolding kindOf recordLength
 register-read-requires c κs = (rw (c .before .before .match .keys6) at (c .before .before .before .before .before .before .before .before .pre .1 .0), c .before .before .before .before .before .before .before .before .pre .1 .1)
 
--- src/records.rt:123:17
 register-write-requires : tie.Need-register-write-requires
 unfolding kindOf recordLength
 register-write-requires c κs = (rw (c .before .before .before .match .keys7) at (c .before .before .before .before .before .before .before .before .before .pre .1 .0), c .before .before .before .before .before .before .before .before .before .pre .1 .1)
 
--- src/records.rt:124:17
 msix-read-requires : tie.Need-msix-read-requires
 unfolding kindOf recordLength
 msix-read-requires c κs = (rw (c .before .before .match .keys8) at (c .before .before .before .before .before .before .before .before .pre .1 .0), c .before .before .before .before .before .before .before .before .pre .1 .1)
 
--- src/records.rt:125:17
 msix-write-requires : tie.Need-msix-write-requires
 unfolding kindOf recordLength
 msix-write-requires c κs = (rw (c .before .before .match .keys9) at (c .before .before .before .before .before .before .before .before .pre .1 .0), c .before .before .before .before .before .before .before .before .pre .1 .1)
 
--- src/records.rt:126:17
 load-requires : tie.Need-load-requires
 unfolding kindOf recordLength
 load-requires c κs = (rw (c .before .before .before .match .keys10) at (c .before .before .before .before .before .before .before .before .before .pre .1 .0), c .before .before .before .before .before .before .before .before .before .pre .1 .1)
 
--- src/records.rt:127:14
 store-requires : tie.Need-store-requires
 unfolding kindOf recordLength
 store-requires c κs =
     let k : getD (c .before .before .before .before .before .before .before .before .before .args .fields .now) 0 0 ≡ 11 = eleven _ (above 9 _ (above 8 _ (above 7 _ (above 6 _ (above 5 _ (above 4 _ (above 3 _ (above 2 _ (above 1 _ (above 0 _ (c .before .before .before .before .before .before .before .before .before .pre .0 .0) (c .before .before .before .match .rest .0 .0 .0 .0 .0 .0 .0 .0 .0 .1)) (c .before .before .before .match .rest .0 .0 .0 .0 .0 .0 .0 .0 .1)) (c .before .before .before .match .rest .0 .0 .0 .0 .0 .0 .0 .1)) (c .before .before .before .match .rest .0 .0 .0 .0 .0 .0 .1)) (c .before .before .before .match .rest .0 .0 .0 .0 .0 .1)) (c .before .before .before .match .rest .0 .0 .0 .0 .1)) (c .before .before .before .match .rest .0 .0 .0 .1)) (c .before .before .before .match .rest .0 .0 .1)) (c .before .before .before .match .rest .0 .1)) (c .before .before .before .match .rest .1)) (c .before .before .before .before .before .before .before .before .before .pre .0 .1) in
     (rw k at (c .before .before .before .before .before .before .before .before .before .pre .1 .0), c .before .before .before .before .before .before .before .before .before .pre .1 .1)
 
--- src/records.rt:110:1
 same-length : tie.Need-same-length
 same-length c = search needs
 
--- src/records.rt:110:1
 same-length-2 : tie.Need-same-length-2
 same-length-2 c = search needs
 
--- src/records.rt:110:1
 returns : tie.Need-returns
 unfolding kindOf requestOf
 returns c = rw (c .before .before .before .before .before .before .before .match .keys1) (c .before .before .before .before .connect .ensures (c .before .before .before .before .before .before .before .before .before .before .before .before .before .args .region .now))
 
--- src/records.rt:110:1
 same-length-3 : tie.Need-same-length-3
 same-length-3 c = search needs
 
--- src/records.rt:110:1
 same-length-4 : tie.Need-same-length-4
 same-length-4 c = search needs
 
--- src/records.rt:110:1
 same-length-5 : tie.Need-same-length-5
 same-length-5 c = search needs
 
--- src/records.rt:110:1
 returns-2 : tie.Need-returns-2
 unfolding kindOf requestOf
 returns-2 c = rw (c .before .before .before .before .before .before .before .before .before .before .match .keys2) (c .before .before .before .before .before .before .disconnect .ensures)
 
--- src/records.rt:110:1
 same-length-6 : tie.Need-same-length-6
 same-length-6 c = search needs
 
--- src/records.rt:110:1
 same-length-7 : tie.Need-same-length-7
 same-length-7 c = search needs
 
--- src/records.rt:110:1
 same-length-8 : tie.Need-same-length-8
 same-length-8 c = search needs
 
--- src/records.rt:110:1
 returns-3 : tie.Need-returns-3
 unfolding kindOf requestOf
 returns-3 c = rw (c .before .before .before .before .before .before .before .before .before .before .match .keys3) (c .before .before .before .before .before .before .reset .ensures)
 
--- src/records.rt:110:1
 same-length-9 : tie.Need-same-length-9
 same-length-9 c = search needs
 
--- src/records.rt:110:1
 same-length-10 : tie.Need-same-length-10
 same-length-10 c = search needs
 
--- src/records.rt:110:1
 returns-4 : tie.Need-returns-4
 unfolding kindOf requestOf
 returns-4 c = rw (c .before .before .before .before .before .match .keys4) (c .before .before .configuration-read .ensures (c .before .before .before .before .before .before .before .before .before .before .before .args .region .now))
 
--- src/records.rt:110:1
 same-length-11 : tie.Need-same-length-11
 same-length-11 c = search needs
 
--- src/records.rt:110:1
 same-length-12 : tie.Need-same-length-12
 same-length-12 c = search needs
 
--- src/records.rt:110:1
 returns-5 : tie.Need-returns-5
 unfolding kindOf requestOf
 returns-5 c = rw (c .before .before .before .before .before .before .before .match .keys5) (c .before .before .before .before .configuration-write .ensures (c .before .before .before .before .before .before .before .before .before .before .before .before .before .args .region .now))
 
--- src/records.rt:110:1
 same-length-13 : tie.Need-same-length-13
 same-length-13 c = search needs
 
--- src/records.rt:110:1
 same-length-14 : tie.Need-same-length-14
 same-length-14 c = search needs
 
--- src/records.rt:110:1
 returns-6 : tie.Need-returns-6
 unfolding kindOf requestOf
 returns-6 c = rw (c .before .before .before .before .before .match .keys6) (c .before .before .register-read .ensures (c .before .before .before .before .before .before .before .before .before .before .before .args .region .now))
 
--- src/records.rt:110:1
 same-length-15 : tie.Need-same-length-15
 same-length-15 c = search needs
 
--- src/records.rt:110:1
 same-length-16 : tie.Need-same-length-16
 same-length-16 c = search needs
 
--- src/records.rt:110:1
 same-length-17 : tie.Need-same-length-17
 same-length-17 c = search needs
 
--- src/records.rt:110:1
 returns-7 : tie.Need-returns-7
 unfolding kindOf requestOf
 returns-7 c = rw (c .before .before .before .before .before .before .before .before .before .before .match .keys7) (c .before .before .before .before .before .before .register-write .ensures)
 
--- src/records.rt:110:1
 same-length-18 : tie.Need-same-length-18
 same-length-18 c = search needs
 
--- src/records.rt:110:1
 same-length-19 : tie.Need-same-length-19
 same-length-19 c = search needs
 
--- src/records.rt:110:1
 returns-8 : tie.Need-returns-8
 unfolding kindOf requestOf
 returns-8 c = rw (c .before .before .before .before .before .match .keys8) (c .before .before .msix-read .ensures (c .before .before .before .before .before .before .before .before .before .before .before .args .region .now))
 
--- src/records.rt:110:1
 same-length-20 : tie.Need-same-length-20
 same-length-20 c = search needs
 
--- src/records.rt:110:1
 same-length-21 : tie.Need-same-length-21
 same-length-21 c = search needs
 
--- src/records.rt:110:1
 returns-9 : tie.Need-returns-9
 unfolding kindOf requestOf
 returns-9 c = rw (c .before .before .before .before .before .before .before .match .keys9) (c .before .before .before .before .msix-write .ensures (c .before .before .before .before .before .before .before .before .before .before .before .before .before .args .region .now))
 
--- src/records.rt:110:1
 same-length-22 : tie.Need-same-length-22
 same-length-22 c = search needs
 
--- src/records.rt:110:1
 same-length-23 : tie.Need-same-length-23
 same-length-23 c = search needs
 
--- src/records.rt:110:1
 same-length-24 : tie.Need-same-length-24
 same-length-24 c = search needs
 
--- src/records.rt:110:1
 returns-10 : tie.Need-returns-10
 unfolding kindOf requestOf
 returns-10 c = rw (c .before .before .before .before .before .before .match .keys10) (c .before .before .load .ensures)
 
--- src/records.rt:110:1
 same-length-25 : tie.Need-same-length-25
 same-length-25 c = search needs
 
--- src/records.rt:110:1
 same-length-26 : tie.Need-same-length-26
 same-length-26 c = search needs
 
--- src/records.rt:110:1
 same-length-27 : tie.Need-same-length-27
 same-length-27 c = search needs
 
--- src/records.rt:110:1
 returns-11 : tie.Need-returns-11
 unfolding kindOf requestOf
 returns-11 c =

@@ -1,24 +1,18 @@
 -- `playback::records::playable` meets its contract.
-use Rattle.playback.specs.Answers.{maxTotal, setUpNumber}
-use Rattle.device.specs.SetUp.{accepted, total}
-use Rattle.device.specs.declared.Settings.{Settings}
-use Rattle.device.proofs.StepLaws.{never}
-use borrow.Author.Tests.{leb-true, not-true, not-false}
-use lib.Dec.{eqb, leb}
 use Prim.Native.Nat.{_≤_}
 use mathlib.Core.Bool.{Bool, true, false}
 use mathlib.Core.Path.{_≡_, refl, sym, _∙_}
-use Rattle.playback.proofs.SetUpLaws.{not-accepted, too-large, taken}
-use native.Mathlib.Omega.{arith}
+use lib.Dec.{eqb, leb}
 use borrow.Author.Needs.{needs}
+use borrow.Author.Tests.{leb-true, not-true, not-false}
+use Rattle.device.proofs.StepLaws.{never}
+use Rattle.device.specs.SetUp.{accepted, total}
+use Rattle.device.specs.declared.Settings.{Settings}
+use Rattle.playback.proofs.SetUpLaws.{not-accepted, too-large, taken}
+use Rattle.playback.specs.Answers.{maxTotal, setUpNumber}
 use Rattle.playback.proofs.records.playable.Statement.{statement}
 use Rattle.playback.proofs.records.playable.Tie as tie
-use Rattle.playback.proofs.records.playable.Reads as reads
-use Rattle.playback.proofs.records.playable.Lts as lts
-use Rattle.soundness.proofs.accepted.Reads as accepted-reads
-use Rattle.soundness.proofs.total.Reads as total-reads
 
--- src/records.rt:59:9
 accepted-requires : tie.Need-accepted-requires
 accepted-requires c κs = search needs
 
@@ -28,17 +22,14 @@ go : (s : Settings) → accepted s ≡ true → (t : Bool) → leb (total s) max
 go s ok true e = (rw (taken s ok e), (λ f. (ok, leb-true _ _ e), λ f. never (sym f)))
 go s ok false e = (rw (too-large s e), (λ f. never f, λ f. too-large s e))
 
--- src/records.rt:61:9
 returns : tie.Need-returns
 returns c =
     let n : setUpNumber (c .before .before .args .s) ≡ 1 = not-accepted (c .before .before .args .s) (sym (c .before .accepted .ensures) ∙ not-true _ (c .if1 .taken)) in
     (rw n, (λ e. never e, λ e. n))
 
--- src/records.rt:63:5
 total-requires : tie.Need-total-requires
 total-requires c κs = sym (c .before .accepted .ensures) ∙ not-false _ (c .if1 .left)
 
--- src/records.rt:54:1
 returns-2 : tie.Need-returns-2
 returns-2 c =
     let s = c .before .before .before .args .s in

@@ -1,53 +1,36 @@
 -- `playback::records::set_up` meets its contract.
-use Rattle.device.specs.SetUp.{accepted, total}
-use lib.Seq.{length-take-le}
-use lib.ListN.{length}
-use mathlib.Core.Bool.{true}
 use Prim.Native.Nat.{_≤_}
-use Rattle.playback.specs.Log.{settingsIn}
-use Rattle.playback.specs.Answers.{maxTotal, setUpNumber}
-use Rattle.playback.proofs.SetUpLaws.{without, hub-room, refused-goes, taken-goes}
-use Rattle.device.proofs.SetUpLaws.{accepted-facts}
-use Rattle.device.proofs.SizeLaws.{maxPeers-pos}
-use borrow.Author.Tests.{not-true, not-false}
+use mathlib.Core.Bool.{true}
 use mathlib.Core.Path.{_≡_, sym, _∙_}
 use native.Mathlib.Omega.{arith}
+use lib.ListN.{length}
+use lib.Seq.{length-take-le}
 use borrow.Author.Needs.{needs}
+use borrow.Author.Tests.{not-true, not-false}
+use Rattle.device.proofs.SetUpLaws.{accepted-facts}
+use Rattle.device.proofs.SizeLaws.{maxPeers-pos}
+use Rattle.device.specs.SetUp.{accepted, total}
+use Rattle.playback.proofs.SetUpLaws.{without, hub-room, refused-goes, taken-goes}
+use Rattle.playback.specs.Answers.{maxTotal, setUpNumber}
+use Rattle.playback.specs.Log.{settingsIn}
 use Rattle.playback.proofs.records.set_up.Statement.{statement}
 use Rattle.playback.proofs.records.set_up.Tie as tie
-use Rattle.playback.proofs.records.set_up.Reads as reads
-use Rattle.playback.proofs.records.set_up.Lts as lts
-use Rattle.hub.proofs.set_up.Reads as set-up-reads
-use Rattle.playback.proofs.answers.done.Reads as done-reads
-use Rattle.playback.proofs.answers.refused.Reads as refused-reads
-use Rattle.playback.proofs.numbers.two.Reads as two-reads
-use Rattle.playback.proofs.records.playable.Reads as playable-reads
-use Rattle.playback.proofs.records.progress.Reads as progress-reads
-use Rattle.playback.proofs.records.settings.Reads as settings-reads
-use Rattle.soundness.proofs.total.Reads as total-reads
-use Rattle.words.proofs.hub_words.Reads as hub-words-reads
 
--- src/records.rt:82:9
 settings-requires : tie.Need-settings-requires
 settings-requires c κs = search needs
 
--- src/records.rt:83:9
 playable-requires : tie.Need-playable-requires
 playable-requires c κs = search needs
 
--- src/records.rt:85:13
 refused-requires : tie.Need-refused-requires
 refused-requires c κs = omega (arith, maxPeers-pos)
 
--- src/records.rt:86:13
 progress-requires : tie.Need-progress-requires
 progress-requires c κs = search needs
 
--- src/records.rt:87:9
 same-length : tie.Need-same-length
 same-length c = search needs
 
--- src/records.rt:87:9
 returns : tie.Need-returns
 unfolding without
 returns c =
@@ -56,79 +39,63 @@ returns c =
     λ held n w. rw (c .progress .ensures) (refused-goes (a .hub .now) (a .region .now) held (a .out .now) _ (settingsIn (a .fields .now)) w _
     (record { hubLength = c .before .before .before .before .before .before .before .before .before .before .before .before .pre .0 .0; regionLength = c .before .before .before .before .before .before .before .before .before .before .before .before .pre .0 .1; heldLength = n; words = omega arith; bytes = omega arith; few = omega arith }) e (c .before .before .before .refused .ensures))
 
--- src/records.rt:89:9
 hub-words-requires : tie.Need-hub-words-requires
 hub-words-requires c κs =
     let f = accepted-facts (c .before .before .settings .result) (c .before .playable .ensures .1 .0 (not-false _ (c .if1 .left)) .0) in
     (f .peers, f .vectors)
 
--- src/records.rt:90:17
 total-requires : tie.Need-total-requires
 total-requires c κs = c .before .before .playable .ensures .1 .0 (not-false _ (c .before .if1 .left)) .0
 
--- src/records.rt:92:9
 slice-relend-prefix-set-up : tie.Need-slice-relend-prefix-set-up
 slice-relend-prefix-set-up c =
     let f = accepted-facts (c .before .before .before .before .settings .result) (c .before .before .before .playable .ensures .1 .0 (not-false _ (c .before .before .if1 .left)) .0) in
     let words : c .before .hub-words .result ≤ length (c .before .before .before .before .before .before .before .before .before .args .hub .now) = rw (c .before .hub-words .ensures, c .before .before .before .before .before .before .before .before .before .pre .0 .0) (hub-room _ _ (f .peers) (f .vectors)) in
     words
 
--- src/records.rt:92:9
 slice-aggregate-set-up : tie.Need-slice-aggregate-set-up
 slice-aggregate-set-up c =
     let f = accepted-facts (c .before .before .before .before .before .settings .result) (c .before .before .before .before .playable .ensures .1 .0 (not-false _ (c .before .before .before .if1 .left)) .0) in
     let words : c .before .before .hub-words .result ≤ length (c .before .before .before .before .before .before .before .before .before .before .args .hub .now) = rw (c .before .before .hub-words .ensures, c .before .before .before .before .before .before .before .before .before .before .pre .0 .0) (hub-room _ _ (f .peers) (f .vectors)) in
     sym (length-take-le (c .before .before .hub-words .result) (c .before .before .before .before .before .before .before .before .before .before .args .hub .now) words)
 
--- src/records.rt:93:9
 slice-relend-prefix-set-up-2 : tie.Need-slice-relend-prefix-set-up-2
 slice-relend-prefix-set-up-2 c =
     let bytes : c .before .total .result ≤ length (c .before .before .before .before .before .before .before .before .before .before .args .region .now) = omega (arith, c .before .before .before .before .playable .ensures .1 .0 (not-false _ (c .before .before .before .if1 .left)) .1, c .before .total .ensures, c .before .before .before .before .before .before .before .before .before .before .pre .0 .1) in
     bytes
 
--- src/records.rt:93:9
 slice-aggregate-set-up-2 : tie.Need-slice-aggregate-set-up-2
 slice-aggregate-set-up-2 c =
     let bytes : c .before .before .total .result ≤ length (c .before .before .before .before .before .before .before .before .before .before .before .args .region .now) = omega (arith, c .before .before .before .before .before .playable .ensures .1 .0 (not-false _ (c .before .before .before .before .if1 .left)) .1, c .before .before .total .ensures, c .before .before .before .before .before .before .before .before .before .before .before .pre .0 .1) in
     sym (length-take-le (c .before .before .total .result) (c .before .before .before .before .before .before .before .before .before .before .before .args .region .now) bytes)
 
--- src/records.rt:100:9
 two-requires : tie.Need-two-requires
 two-requires c κs = search needs
 
--- src/records.rt:101:9
 two-requires-2 : tie.Need-two-requires-2
 two-requires-2 c κs = search needs
 
--- src/records.rt:102:9
 two-requires-3 : tie.Need-two-requires-3
 two-requires-3 c κs = search needs
 
--- src/records.rt:91:9
 set-up-requires : tie.Need-set-up-requires
 set-up-requires c κs = search needs
 
--- src/records.rt:104:9
 done-requires : tie.Need-done-requires
 done-requires c κs = omega (arith, maxPeers-pos, c .before .before .before .before .before .before .before .before .before .before .before .before .before .before .before .before .before .before .before .before .pre)
 
--- src/records.rt:105:9
 progress-requires-2 : tie.Need-progress-requires-2
 progress-requires-2 c κs = search needs
 
--- src/records.rt:77:1
 same-length-2 : tie.Need-same-length-2
 same-length-2 c = search needs
 
--- src/records.rt:77:1
 same-length-3 : tie.Need-same-length-3
 same-length-3 c = search needs
 
--- src/records.rt:77:1
 same-length-4 : tie.Need-same-length-4
 same-length-4 c = search needs
 
--- src/records.rt:77:1
 returns-2 : tie.Need-returns-2
 returns-2 c =
     let f = accepted-facts (c .before .before .before .before .before .before .before .before .before .before .before .before .before .before .before .before .before .before .before .settings .result) (c .before .before .before .before .before .before .before .before .before .before .before .before .before .before .before .before .before .before .playable .ensures .1 .0 (not-false _ (c .before .before .before .before .before .before .before .before .before .before .before .before .before .before .before .before .before .if1 .left)) .0) in

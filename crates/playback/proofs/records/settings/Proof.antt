@@ -2,73 +2,52 @@
 use borrow.Author.Needs.{needs}
 use Rattle.playback.proofs.records.settings.Statement.{statement}
 use Rattle.playback.proofs.records.settings.Tie as tie
-use Rattle.playback.proofs.records.settings.Reads as reads
-use Rattle.playback.proofs.records.settings.Lts as lts
-use Rattle.playback.proofs.numbers.eight.Reads as eight-reads
-use Rattle.playback.proofs.numbers.four.Reads as four-reads
-use Rattle.playback.proofs.numbers.two.Reads as two-reads
 
--- src/records.rt:41:16
 two-requires : tie.Need-two-requires
 two-requires c κs = search needs
 
--- src/records.rt:41:16
 cast-t3 : tie.Need-cast-t3
 cast-t3 c = search needs
 
--- src/records.rt:42:18
 two-requires-2 : tie.Need-two-requires-2
 two-requires-2 c κs = search needs
 
--- src/records.rt:42:18
 cast-t5 : tie.Need-cast-t5
 cast-t5 c = search needs
 
--- src/records.rt:43:16
 four-requires : tie.Need-four-requires
 four-requires c κs = search needs
 
--- src/records.rt:43:16
 cast-t7 : tie.Need-cast-t7
 cast-t7 c = search needs
 
--- src/records.rt:44:17
 eight-requires : tie.Need-eight-requires
 eight-requires c κs = search needs
 
--- src/records.rt:45:17
 eight-requires-2 : tie.Need-eight-requires-2
 eight-requires-2 c κs = search needs
 
--- src/records.rt:46:15
 eight-requires-3 : tie.Need-eight-requires-3
 eight-requires-3 c κs = search needs
 
--- src/records.rt:47:19
 two-requires-3 : tie.Need-two-requires-3
 two-requires-3 c κs = search needs
 
--- src/records.rt:47:19
 cast-t12 : tie.Need-cast-t12
 cast-t12 c = search needs
 
--- src/records.rt:48:17
 two-requires-4 : tie.Need-two-requires-4
 two-requires-4 c κs = search needs
 
--- src/records.rt:48:17
 cast-t14 : tie.Need-cast-t14
 cast-t14 c = search needs
 
--- src/records.rt:49:20
 two-requires-5 : tie.Need-two-requires-5
 two-requires-5 c κs = search needs
 
--- src/records.rt:49:20
 cast-t16 : tie.Need-cast-t16
 cast-t16 c = search needs
 
--- src/records.rt:36:1
 returns : tie.Need-returns
 returns c = rw (c .before .before .before .before .before .before .before .before .two .ensures, c .before .before .before .before .before .before .before .two2 .ensures, c .before .before .before .before .before .before .four .ensures, c .before .before .before .before .before .eight .ensures, c .before .before .before .before .eight2 .ensures, c .before .before .before .eight3 .ensures, c .before .before .two3 .ensures, c .before .two4 .ensures, c .two5 .ensures)
 
