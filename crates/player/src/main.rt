@@ -5,8 +5,15 @@ use libc::STDOUT_FILENO;
 use playback::Progress;
 ghost use mathlib.Core.Path.{_≡_};
 ghost use Prim.Native.Nat.{_≤_};
+ghost use lib.ListN.{length};
 
-// What has been read is played: whether there is more to read.
+// The bytes taken of a piece.
+struct Step {
+    progress: Progress,
+    taken: usize,
+}
+
+// Whether there is more to read.
 struct Turn {
     progress: Progress,
     more: bool,
@@ -30,8 +37,30 @@ fn ended(progress: Progress) -> Turn {
     }
 }
 
-// Feeds a piece. Where its answers need more room than the buffer has, it takes several turns. There is no more to read after an
-// unknown kind, nor where the answers cannot be written.
+// Feeds once and writes the answers. None taken: after an unknown kind, and where the answers cannot be written.
+fn feed_once(
+    hub: &mut [u32],
+    region: &mut [u8],
+    held: &mut [u8],
+    p: Progress,
+    rest: &[u8],
+    out: &mut [u8],
+) -> Step
+    ensures { λ r. ⌜ r .taken ≤ length (now (rest .entry)) ⌝ }
+{
+    let r = playback::feed(hub, region, held, p, rest, out);
+    let progress = r.progress;
+    let written = write_front(out, r.written);
+    if !written | progress.stopped {
+        return Step { progress, taken: 0 };
+    }
+    Step {
+        progress,
+        taken: least(r.taken, rest.len()),
+    }
+}
+
+// Feeds a piece. Where its answers need more room than the buffer has, it takes several turns.
 fn play(
     hub: &mut [u32],
     region: &mut [u8],
@@ -43,14 +72,12 @@ fn play(
     let mut p = progress;
     let mut at = 0;
     while at < piece.len() {
-        let r = playback::feed(hub, region, held, p, &piece[at..], out);
-        p = r.progress;
-        let taken = least(r.taken, piece.len() - at);
-        let written = write_front(out, r.written);
-        if !written | p.stopped | (taken == 0) {
+        let s = feed_once(hub, region, held, p, &piece[at..], out);
+        p = s.progress;
+        if s.taken == 0 {
             return ended(p);
         }
-        at += taken;
+        at += s.taken;
     }
     Turn {
         progress: p,

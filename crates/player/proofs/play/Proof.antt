@@ -2,10 +2,14 @@
 use Prim.Native.Nat.{_-_, _≤_}
 use mathlib.Core.Path.{_≡_, refl}
 use native.Mathlib.Omega.{arith}
-use lib.ListN.{length}
+use lib.ListN.{length, length-take, length-drop}
 use borrow.Author.Needs.{needs}
 use Rattle.player.proofs.play.Statement.{statement}
 use Rattle.player.proofs.play.Tie as tie
+use Rattle.player.proofs.play.Reads as reads
+use Rattle.player.proofs.play.Lts as lts
+use Rattle.player.proofs.ended.Reads as ended-reads
+use Rattle.player.proofs.feed_once.Reads as feed-once-reads
 
 abbrev Inv-loop : tie.InvT-loop
 Inv-loop hub₀ region₀ held₀ piece out₀ p₀ at₀ hub region held out p at =
@@ -18,66 +22,79 @@ Inv-loop hub₀ region₀ held₀ piece out₀ p₀ at₀ hub region held out p 
 abbrev μ-loop : tie.MeasureT-loop
 μ-loop hub₀ region₀ held₀ piece out₀ p₀ at₀ hub region held out p at = length piece - at
 
+-- src/main.rt:74:5
 loop-holds : tie.Need-loop-holds Inv-loop μ-loop
 loop-holds c = (omega arith, refl, refl, refl, refl)
 
-sub-feed : tie.Need-sub-feed Inv-loop μ-loop
-sub-feed c = search needs
+-- src/main.rt:75:49
+sub-feed-once : tie.Need-sub-feed-once Inv-loop μ-loop
+sub-feed-once c = search needs
 
-part-feed-start : tie.Need-part-feed-start Inv-loop μ-loop
-part-feed-start c = search needs
+-- src/main.rt:75:49
+part-feed-once-start : tie.Need-part-feed-once-start Inv-loop μ-loop
+part-feed-once-start c = search needs
 
-part-feed-end : tie.Need-part-feed-end Inv-loop μ-loop
-part-feed-end c = search needs
+-- src/main.rt:75:49
+part-feed-once-end : tie.Need-part-feed-once-end Inv-loop μ-loop
+part-feed-once-end c = search needs
 
-feed-requires : tie.Need-feed-requires Inv-loop μ-loop
-feed-requires c κs = search needs
+-- src/main.rt:75:13
+feed-once-requires : tie.Need-feed-once-requires Inv-loop μ-loop
+feed-once-requires c κs = search needs
 
-write-front-requires : tie.Need-write-front-requires Inv-loop μ-loop
-write-front-requires c κs = search needs
+-- src/main.rt:78:13
+ended-requires : tie.Need-ended-requires Inv-loop μ-loop
+ended-requires c κs = search needs
 
-sub-least : tie.Need-sub-least Inv-loop μ-loop
-sub-least c = search needs
-
-least-requires : tie.Need-least-requires Inv-loop μ-loop
-least-requires c κs = search needs
-
+-- src/main.rt:78:13
 same-length : tie.Need-same-length Inv-loop μ-loop
 same-length c = search needs
 
+-- src/main.rt:78:13
 same-length-2 : tie.Need-same-length-2 Inv-loop μ-loop
 same-length-2 c = search needs
 
+-- src/main.rt:78:13
 same-length-3 : tie.Need-same-length-3 Inv-loop μ-loop
 same-length-3 c = search needs
 
+-- src/main.rt:78:13
 same-length-4 : tie.Need-same-length-4 Inv-loop μ-loop
 same-length-4 c = search needs
 
+-- src/main.rt:78:13
 returns : tie.Need-returns Inv-loop μ-loop
 returns c = search needs
 
+-- src/main.rt:80:9
 add-at : tie.Need-add-at Inv-loop μ-loop
-add-at c = omega (arith, c .before .least .ensures, c .before .before .before .before .before .before .before .before .before .before .before .before .before .before .before .before .before .before .before .before .before .before .before .before .before .before .good .1 .1 .1 .1 .0 .0)
+add-at c = omega (arith, c .before .before .before .before .before .before .before .before .before .before .before .before .feed-once .ensures, simp (length-take, length-drop) at (c .before .before .before .before .before .before .before .before .before .before .before .before .feed-once .ensures), c .before .before .before .before .before .before .before .before .before .before .before .before .before .before .before .before .before .before .before .before .before .before .before .before .before .good .1 .1 .1 .1 .0 .0)
 
+-- src/main.rt:74:5
 loop-less : tie.Need-loop-less Inv-loop μ-loop
 loop-less c = search needs
 
+-- src/main.rt:74:5
 loop-again : tie.Need-loop-again Inv-loop μ-loop
 loop-again c = search needs
 
+-- src/main.rt:64:1
 same-length-5 : tie.Need-same-length-5 Inv-loop μ-loop
 same-length-5 c = search needs
 
+-- src/main.rt:64:1
 same-length-6 : tie.Need-same-length-6 Inv-loop μ-loop
 same-length-6 c = search needs
 
+-- src/main.rt:64:1
 same-length-7 : tie.Need-same-length-7 Inv-loop μ-loop
 same-length-7 c = search needs
 
+-- src/main.rt:64:1
 same-length-8 : tie.Need-same-length-8 Inv-loop μ-loop
 same-length-8 c = search needs
 
+-- src/main.rt:64:1
 returns-2 : tie.Need-returns-2 Inv-loop μ-loop
 returns-2 c = search needs
 
@@ -88,13 +105,11 @@ play-spec =
     Inv-loop
     μ-loop
     loop-holds
-    sub-feed
-    part-feed-start
-    part-feed-end
-    feed-requires
-    write-front-requires
-    sub-least
-    least-requires
+    sub-feed-once
+    part-feed-once-start
+    part-feed-once-end
+    feed-once-requires
+    ended-requires
     same-length
     same-length-2
     same-length-3
