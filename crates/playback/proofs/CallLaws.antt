@@ -1,5 +1,5 @@
 -- From what the hub's calls promise to what a record's answer is: a law for each way that calls are lent the hub and the region.
-use Prim.Native.Nat.{ℕ, zero, suc, _≤_}
+use Prim.Native.Nat.{ℕ, zero, suc}
 use mathlib.Core.Bool.{Bool, true, false, cond}
 use mathlib.Core.List.{List, [], _∷_}
 use mathlib.Core.Path.{_≡_, refl, sym, ap, _∙_}
@@ -13,13 +13,13 @@ use Rattle.device.specs.declared.Delivery.{Delivery}
 use Rattle.device.specs.declared.Reply.{Reply}
 use Rattle.device.proofs.QuietLaws.{mayRing, quiet}
 use Rattle.device.proofs.StepLaws.{readsOnly, reads-keep-world}
-use Rattle.device.specs.Call.{Act, Call, call}
+use Rattle.device.specs.Call.{Act, Call}
 use Rattle.device.specs.Call.Act.{connect, disconnect, reset, configurationRead, configurationWrite, registerRead, registerWrite, msixRead, msixWrite, question, load, store}
 use Rattle.device.specs.Effect.{Operation, effect}
 use Rattle.device.specs.Refusal.{Lent, lentTo, refusal}
 use Rattle.device.specs.Registers.{memoryOn}
 use Rattle.device.specs.Msix
-use Rattle.device.specs.Step.{Outcome, run, runAll, effectIn, stepBy, step}
+use Rattle.device.specs.Step.{run, runAll, effectIn, stepBy, step}
 use Rattle.device.specs.World.{Hub, World, world, slotAt}
 use Rattle.hub.specs.declared.Served.{Served}
 use Rattle.hub.specs.Promises

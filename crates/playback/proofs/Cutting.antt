@@ -1,11 +1,10 @@
 -- The theorems of specs/Cutting: cutting changes nothing, calls are feeding, and records are answered or held.
-use Prim.Native.Nat.{ℕ, zero, suc, _+_, _≤_, _<_}
+use Prim.Native.Nat.{ℕ, _+_, _<_}
 use mathlib.Core.Bool.{false, true}
 use mathlib.Core.List.{List, [], _∷_, _++_, append-nil, append-assoc}
 use mathlib.Core.Path.{_≡_, refl, sym, ap, _∙_}
 use native.Mathlib.Omega.{arith}
-use lib.Dec.{leb}
-use lib.ListN.{length, take, getD, length-append}
+use lib.ListN.{length, take, length-append}
 use lib.Seq.{take-at}
 use borrow.Author.Tests.{le-leb, lt-leb, ne-eqb}
 use Rattle.common.proofs.StreamLaws.{fed-append, pieces-joined}
@@ -16,7 +15,7 @@ use Rattle.playback.proofs.RecordLaws.{record-some}
 use Rattle.playback.specs.Answers.{answer}
 use Rattle.playback.specs.Cutting.{playedInPieces, CuttingChangesNothing, Calls, CallsAreFeeding, CallsPlay, RecordsAreAnswered, PartsAreHeld, NothingElse}
 use Rattle.playback.specs.Log.{kindOf, recordLength, requestOf, whole}
-use Rattle.playback.specs.Player.{Player, player, after, answers, come, fed, fresh, ending, inside, played}
+use Rattle.playback.specs.Player.{Player, player, after, answers, come, fed, fresh, inside, played}
 use Rattle.playback.specs.Promises.{Writes, playerIn}
 
 pub cutting-changes-nothing : CuttingChangesNothing

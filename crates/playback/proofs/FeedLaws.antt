@@ -1,5 +1,5 @@
 -- A piece, byte by byte: how far it has been fed, one byte more, and where it ends.
-use Prim.Native.Nat.{ℕ, zero, suc, _+_, _-_, _≤_, _<_}
+use Prim.Native.Nat.{ℕ, suc, _+_, _-_, _≤_, _<_}
 use mathlib.Core.Bool.{Bool, true, false, _&&_}
 use mathlib.Core.List.{List, [], _∷_, _++_, append-nil}
 use mathlib.Core.Path.{_≡_, refl, sym, ap, _∙_}
@@ -10,14 +10,13 @@ use lib.ListN.{length, take, drop, getD, length-append, length-take, length-drop
 use lib.Seq.{take-suc, drop-cons}
 use borrow.Author.Tests.{lt-ltb, le-ltb, leb-false, ltb-false}
 use borrow.Rule.Slice.PartMut.{putMid}
-use Rattle.common.specs.Lists.{over}
-use Rattle.common.specs.Streams.{Fed, fedTo, fedAll}
+use Rattle.common.specs.Streams.{fedTo, fedAll}
 use Rattle.playback.proofs.OverLaws.{length-over, nothing-over, over-then}
 use Rattle.common.proofs.StreamLaws.{fed-append}
 use Rattle.playback.specs.declared.Progress.{Progress}
 use Rattle.playback.specs.Answers.{longest}
 use Rattle.playback.specs.Player.{Player, fed}
-use Rattle.playback.specs.Promises.{Goes, Lent, Writes, playerIn, takenWithin}
+use Rattle.playback.specs.Promises.{Goes, Lent, playerIn, takenWithin}
 
 -- i bytes of a piece are fed, and at bytes are written
 pub record FedSoFar (p₀ : Player) (hub region held piece out₀ out : List ℕ) (p : Progress) (i at : ℕ) : Type 0 where

@@ -2,12 +2,13 @@
 use Prim.Native.Nat.{ℕ, _+_, _≤_, _<_}
 use mathlib.Core.Bool.{Bool, true, false}
 use mathlib.Core.List.{List, [], _∷_, _++_}
-use mathlib.Core.Path.{_≡_, refl, sym, ap, _∙_}
+use mathlib.Core.Path.{_≡_, refl, sym, ap}
 use native.Mathlib.Omega.{arith}
-use lib.ListN.{length, take, drop, getD, set, length-append, length-drop, length-set}
+use lib.ListN.{length, take, drop, getD, set, length-set}
 use lib.Seq.{take-at}
-use Rattle.device.specs.World.{World, world}
+use Rattle.device.specs.World.{World}
 use Rattle.playback.proofs.HeldLaws.{byte-held, byte-answered}
+use Rattle.playback.proofs.LentLaws.{lent-back}
 use Rattle.playback.proofs.OverLaws.{nothing-over}
 use Rattle.playback.proofs.RecordLaws.{record-short}
 use Rattle.playback.specs.declared.Progress.{Progress}
@@ -15,7 +16,6 @@ use Rattle.playback.specs.Answers.{answer}
 use Rattle.playback.specs.Log.{Request, kindOf, longestRecord, recordLength, requestOf}
 use Rattle.playback.specs.Player.{player, after, fed}
 use Rattle.playback.specs.Promises.{Answers, Goes, Lent, Writes, worldIn, playerIn}
-use Rattle.words.specs.Layout.{hubOf}
 
 -- nothing is held
 abbrev pub inUse : (words bytes : ℕ) → Bool → Progress
@@ -36,15 +36,7 @@ module _ (hub region held out outAfter : List ℕ) (words bytes n : ℕ) where
       record {
         player = rw (take-at hubAfter (drop words hub) words nh, take-at regionAfter (drop bytes region) bytes nr, on) (ap (λ (w : World). player w [] false) (a .left));
         written = a .written;
-        lent =
-            record {
-              hubLength = simp (length-append, length-drop) (omega (arith, lent .words, lent .hubLength));
-              regionLength = simp (length-append, length-drop) (omega (arith, lent .bytes, lent .regionLength));
-              heldLength = lent .heldLength;
-              words = simp (length-append, length-drop) (omega (arith, lent .words));
-              bytes = simp (length-append, length-drop) (omega (arith, lent .bytes));
-              few = lent .few;
-            };
+        lent = lent-back hub region held _ hubAfter regionAfter nh nr lent;
       }
 
 -- one byte: of a stopped player, of a record that is not whole with it, and of one that is

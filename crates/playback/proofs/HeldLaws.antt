@@ -1,19 +1,18 @@
 -- One byte more: what is held with it, and what the player does.
-use Prim.Native.Nat.{ℕ, zero, suc, _+_, _≤_, _<_}
-use mathlib.Core.Bool.{Bool, true, false}
+use Prim.Native.Nat.{ℕ, _+_, _≤_, _<_}
+use mathlib.Core.Bool.{true, false}
 use mathlib.Core.List.{List, [], _∷_, _++_}
-use mathlib.Core.Path.{_≡_, refl, sym, ap, _∙_}
+use mathlib.Core.Path.{_≡_, refl, sym}
 use native.Mathlib.Numerals.{add-one}
 use native.Mathlib.Omega.{arith}
-use lib.Dec.{leb}
 use lib.ListN.{length, take, getD, set, length-set}
 use lib.Seq.{take-suc-set, length-take-le, getD-take}
 use borrow.Author.Tests.{le-leb, lt-leb}
-use Rattle.common.specs.Streams.{Fed, fedTo}
+use Rattle.common.specs.Streams.{fedTo}
 use Rattle.device.specs.World.{World}
 use Rattle.playback.specs.Answers.{answer}
 use Rattle.playback.specs.Log.{kindOf, recordLength, requestOf, whole}
-use Rattle.playback.specs.Player.{Player, player, after, come, fed}
+use Rattle.playback.specs.Player.{player, after, come, fed}
 
 module _ (w : World) (held : List ℕ) (at byte : ℕ) (h : at < length held) where
   -- the bytes held, with the new one

@@ -1,15 +1,15 @@
 -- The refusals of a piece.
 use Prim.Native.Nat.{ℕ, _≤_}
 use mathlib.Core.Bool.{Bool, true, false, not, _&&_}
-use mathlib.Core.List.{List, [], _∷_}
-use mathlib.Core.Path.{_≡_, refl}
+use mathlib.Core.List.{List, [], _∷_, _++_}
+use mathlib.Core.Path.{_≡_}
 use native.Mathlib.Omega.{arith}
 use lib.Seq.{length-take-le}
 use lib.Dec.{eqb, leb, ltb}
-use lib.ListN.{length, getD}
+use lib.ListN.{length, drop, length-append, length-drop}
 use borrow.Author.Tests.{eqb-true, leb-true, ltb-true}
 use Rattle.common.proofs.TestLaws.{every-true}
-use Rattle.common.specs.Tests.{every, row, first}
+use Rattle.common.specs.Tests.{first}
 use Rattle.device.specs.Sizes.{maxPeers, maxVectors}
 use Rattle.playback.specs.declared.Progress.{Progress}
 use Rattle.playback.specs.Answers.{longest, maxTotal}
@@ -58,3 +58,16 @@ module _ (hub region held : List ℕ) (p : Progress) where
   pub inside-is : Lent hub region held p → inside (playerIn hub region held p) ≡ (not (p .stopped) && not (eqb (p .held) 0))
   unfolding inside
   inside-is lent = let l : p .held ≤ length held = omega (arith, lent .few) in rw (length-take-le (p .held) held l)
+
+  -- the parts in use were lent on, and came back
+  pub lent-back : (hubAfter regionAfter : List ℕ) → length hubAfter ≡ p .words → length regionAfter ≡ p .bytes → Lent hub region held p
+      → Lent (hubAfter ++ drop (p .words) hub) (regionAfter ++ drop (p .bytes) region) held p
+  lent-back hubAfter regionAfter nh nr lent =
+      record {
+        hubLength = simp (length-append, length-drop) (omega (arith, lent .words, lent .hubLength));
+        regionLength = simp (length-append, length-drop) (omega (arith, lent .bytes, lent .regionLength));
+        heldLength = lent .heldLength;
+        words = simp (length-append, length-drop) (omega (arith, lent .words));
+        bytes = simp (length-append, length-drop) (omega (arith, lent .bytes));
+        few = lent .few;
+      }

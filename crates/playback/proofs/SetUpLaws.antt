@@ -1,15 +1,15 @@
 -- When a log's set-up is taken.
 use Prim.Native.Nat.{ℕ, _+_, _*_, _≤_}
-use mathlib.Core.Bool.{Bool, true, false, cond, not}
+use mathlib.Core.Bool.{Bool, true, false, cond}
 use mathlib.Core.List.{List, [], _∷_, _++_}
-use mathlib.Core.Path.{_≡_, refl, sym, ap, _∙_}
+use mathlib.Core.Path.{_≡_, refl, ap, _∙_}
 use native.Mathlib.Nat.{mul-le-mul}
 use native.Mathlib.Omega.{arith}
 use lib.Dec.{eqb, leb}
-use lib.ListN.{length, take, drop, replicate, length-append, length-drop, length-replicate}
+use lib.ListN.{length, take, drop, replicate, length-replicate}
 use lib.Seq.{length-take-le, take-at}
 use borrow.Author.Tests.{eq-eqb, le-leb}
-use Rattle.common.specs.Tests.{every, row, first}
+use Rattle.common.specs.Tests.{first}
 use Rattle.common.proofs.TestLaws.{every-false}
 use Rattle.device.specs.declared.Settings.{Settings}
 use Rattle.device.specs.SetUp.{accepted, total, setUpRefusal, freshHub}
@@ -18,6 +18,7 @@ use Rattle.device.specs.declared.Reply.{Reply}
 use Rattle.hub.specs.Promises.{SetsUp}
 use Rattle.device.specs.Sizes.{maxPeers, maxVectors}
 use Rattle.device.specs.World.{World, zeroHub}
+use Rattle.playback.proofs.LentLaws.{lent-back}
 use Rattle.playback.specs.declared.Progress.{Progress}
 use Rattle.playback.specs.Answers.{answer, done, maxTotal, refusedBy, replied, setUpNumber}
 use Rattle.playback.specs.Log.{Request}
@@ -84,13 +85,5 @@ module _ (hub region held out outAfter : List ℕ) (s : Settings) (w : World) (n
       record {
         player = rw (h, g, e);
         written = rw (e, ← number) ws;
-        lent =
-            record {
-              hubLength = simp (length-append, length-drop) (omega (arith, lent .words, lent .hubLength));
-              regionLength = simp (length-append, length-drop) (omega (arith, lent .bytes, lent .regionLength));
-              heldLength = lent .heldLength;
-              words = simp (length-append, length-drop) (omega (arith, lent .words));
-              bytes = simp (length-append, length-drop) (omega (arith, lent .bytes));
-              few = lent .few;
-            };
+        lent = lent-back hub region held _ hubAfter regionAfter nh nr lent;
       }

@@ -10,7 +10,7 @@ use Rattle.device.specs.declared.Settings.{Settings}
 use Rattle.device.specs.History.{start}
 use Rattle.device.specs.SetUp.{total, setUpRefusal}
 use Rattle.device.specs.Sizes.{maxPeers}
-use Rattle.device.specs.Step.{Outcome, step}
+use Rattle.device.specs.Step.{step}
 use Rattle.device.specs.World.{World, world, zeroHub}
 use Rattle.playback.specs.Log.{Request}
 
