@@ -1,38 +1,25 @@
 -- The refusals of a piece.
 use Prim.Native.Nat.{ℕ, _≤_}
-use mathlib.Core.Bool.{Bool, true, false, not, _&&_}
-use mathlib.Core.List.{List, [], _∷_, _++_}
+use mathlib.Core.Bool.{true, false, not, _&&_}
+use mathlib.Core.List.{List, _++_}
 use mathlib.Core.Path.{_≡_}
 use native.Mathlib.Omega.{arith}
 use lib.Seq.{length-take-le}
-use lib.Dec.{eqb, leb, ltb}
+use lib.Dec.{eqb, ltb}
 use lib.ListN.{length, drop, length-append, length-drop}
 use borrow.Author.Tests.{eqb-true, leb-true, ltb-true}
 use Rattle.common.proofs.TestLaws.{every-true}
 use Rattle.common.specs.Tests.{first}
-use Rattle.device.specs.Sizes.{maxPeers, maxVectors}
 use Rattle.playback.specs.declared.Progress.{Progress}
-use Rattle.playback.specs.Answers.{longest, maxTotal}
-use Rattle.playback.specs.Log.{longestRecord}
+use Rattle.playback.specs.Answers.{longest}
 use Rattle.playback.specs.Player.{inside}
-use Rattle.playback.specs.Promises.{Lent, isLent, playerIn, refusalOf}
-use Rattle.words.specs.Layout.{hubWords}
+use Rattle.playback.specs.Promises.{Lent, lentTests, isLent, playerIn, refusalOf}
 
 module _ (hub region held : List ℕ) (p : Progress) where
-  tests : List Bool
-  tests =
-      eqb (length hub) (hubWords maxPeers maxVectors)
-      ∷ eqb (length region) maxTotal
-      ∷ eqb (length held) longestRecord
-      ∷ leb (p .words) (length hub)
-      ∷ leb (p .bytes) (length region)
-      ∷ ltb (p .held) (length held)
-      ∷ []
-
   pub lent-facts : isLent hub region held p ≡ true → Lent hub region held p
-  unfolding isLent tests
+  unfolding isLent
   lent-facts e =
-      let t = every-true tests e in
+      let t = every-true (lentTests hub region held p) e in
       record {
         hubLength = eqb-true _ _ (t 0);
         regionLength = eqb-true _ _ (t 1);

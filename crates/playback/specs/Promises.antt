@@ -36,17 +36,19 @@ pub record Lent (hub region held : List ℕ) (p : Progress) : Type 0 where
   pub bytes : p .bytes ≤ length region
   pub few : p .held < length held
 
--- the same as a test
-unfoldable pub isLent : (hub region held : List ℕ) → Progress → Bool
-isLent hub region held p =
-    every
-    (eqb (length hub) (hubWords maxPeers maxVectors)
+-- the same as tests
+abbrev pub lentTests : (hub region held : List ℕ) → Progress → List Bool
+lentTests hub region held p =
+    eqb (length hub) (hubWords maxPeers maxVectors)
     ∷ eqb (length region) maxTotal
     ∷ eqb (length held) longestRecord
     ∷ leb (p .words) (length hub)
     ∷ leb (p .bytes) (length region)
     ∷ ltb (p .held) (length held)
-    ∷ [])
+    ∷ []
+
+unfoldable pub isLent : (hub region held : List ℕ) → Progress → Bool
+isLent hub region held p = every (lentTests hub region held p)
 
 -- Bytes written to the front of a buffer, which has room for them, and their number.
 pub record Writes (before after written : List ℕ) (n : ℕ) : Type 0 where
