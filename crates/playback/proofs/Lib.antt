@@ -1,4 +1,5 @@
 pub mod CallLaws
+pub mod Case
 pub mod Cutting
 pub mod DeliveryLaws
 pub mod FeedLaws
