@@ -6,24 +6,20 @@
 
 #include "ivshmem.h"
 
-enum { PEERS = 4, VECTORS = 2, TABLE = 4096, COMMON = 4096, OUTPUT = 4096, TOTAL = TABLE + COMMON + PEERS * OUTPUT };
+enum { PEERS = 4, VECTORS = 2, STATE_TABLE = 4096, READ_WRITE = 4096, OUTPUT = 4096 };
+enum { TOTAL = STATE_TABLE + READ_WRITE + PEERS * OUTPUT };
 enum { WORDS = IVSHMEM_HUB_WORDS(PEERS, VECTORS) };
-
-/* Places in a peer's spaces. */
-enum { COMMAND = 0x04, PRIVILEGED_CONTROL = 0x43, MESSAGE_CONTROL = 0x62 };
-enum { INTERRUPT_CONTROL = 0x08, DOORBELL = 0x0C, STATE = 0x10 };
-enum { ENTRY_BYTES = 16, ADDRESS = 0, PAYLOAD = 8, CONTROL = 12 };
 
 static uint32_t hub[WORDS];
 static uint8_t region[TOTAL];
-static ivshmem_delivery deliveries[PEERS];
+static ivshmem_delivery table[PEERS];
 
 static void answered(const char *what, ivshmem_reply reply)
 {
     if (reply.number == IVSHMEM_ACCEPTED)
         printf("%-44s accepted, value %08" PRIX32 "h\n", what, reply.value);
     else
-        printf("%-44s refused by %" PRIu32 "\n", what, reply.number);
+        printf("%-44s refused by %" PRIu32 ": %s\n", what, reply.number, ivshmem_number_text(reply.number));
 }
 
 static void delivered(const char *what, ivshmem_counted answer)
@@ -31,50 +27,62 @@ static void delivered(const char *what, ivshmem_counted answer)
     answered(what, answer.reply);
     for (size_t i = 0; i < answer.count; i++)
         printf("    interrupt for peer %" PRIu16 ": vector %" PRIu16 ", address %08" PRIX64 "h, data %" PRIX32 "h\n",
-               deliveries[i].target, deliveries[i].vector, deliveries[i].address, deliveries[i].payload);
+               table[i].target, table[i].vector, table[i].address, table[i].data);
 }
 
 static ivshmem_reply set_up(size_t words, uint64_t peers)
 {
-    return ivshmem_set_up(hub, words, region, TOTAL, peers, VECTORS, TABLE, COMMON, OUTPUT, 0x100000000, 1, 0x110A, 0x4106);
+    const ivshmem_settings settings = {
+        .peers = peers,
+        .vectors = VECTORS,
+        .state_table = STATE_TABLE,
+        .read_write = READ_WRITE,
+        .output = OUTPUT,
+        .base = 0x100000000,
+        .protocol = 1,
+        .subsystem_vendor = 0x110A,
+        .subsystem_id = 0x4106,
+    };
+
+    return ivshmem_set_up_hub(hub, words, region, TOTAL, settings);
 }
 
 static ivshmem_counted write_register(uint64_t id, uint64_t offset, uint32_t value)
 {
-    return ivshmem_register_write(hub, WORDS, region, TOTAL, deliveries, PEERS, id, offset, 4, value);
+    return ivshmem_register_write(hub, WORDS, region, TOTAL, table, PEERS, id, offset, 4, value);
 }
 
 /* What a guest's driver does: memory and bus master on, each vector's message set and unmasked, MSI-X on, interrupts on. */
 static int switch_on(uint64_t id)
 {
-    uint32_t refused = ivshmem_configuration_write(hub, WORDS, id, COMMAND, 2, 0x0006).number;
+    uint32_t refused = ivshmem_configuration_write(hub, WORDS, id, IVSHMEM_CONFIGURATION_COMMAND, 2, 0x0006).number;
     for (uint64_t v = 0; v < VECTORS; v++) {
-        uint64_t entry = ENTRY_BYTES * v;
-        refused |= ivshmem_msix_write(hub, WORDS, id, entry + ADDRESS, 4, 0xFEE00000).number;
-        refused |= ivshmem_msix_write(hub, WORDS, id, entry + PAYLOAD, 4, (uint32_t)(0x40 + 16 * v + id)).number;
-        refused |= ivshmem_msix_write(hub, WORDS, id, entry + CONTROL, 4, 0).number;
+        uint64_t entry = IVSHMEM_MSIX_ENTRY_BYTES * v;
+        refused |= ivshmem_msix_write(hub, WORDS, id, entry + IVSHMEM_MSIX_ADDRESS_LOW, 4, 0xFEE00000).number;
+        refused |= ivshmem_msix_write(hub, WORDS, id, entry + IVSHMEM_MSIX_DATA, 4, (uint32_t)(0x40 + 16 * v + id)).number;
+        refused |= ivshmem_msix_write(hub, WORDS, id, entry + IVSHMEM_MSIX_CONTROL, 4, 0).number;
     }
-    refused |= ivshmem_configuration_write(hub, WORDS, id, MESSAGE_CONTROL, 2, 0x8000).number;
-    refused |= write_register(id, INTERRUPT_CONTROL, 1).reply.number;
+    refused |= ivshmem_configuration_write(hub, WORDS, id, IVSHMEM_CONFIGURATION_MESSAGE_CONTROL, 2, 0x8000).number;
+    refused |= write_register(id, IVSHMEM_REGISTER_INTERRUPT_CONTROL, 1).reply.number;
     return refused == IVSHMEM_ACCEPTED;
 }
 
 static void doorbell_and_state(void)
 {
-    delivered("peer 0 rings vector 1 at peer 2", write_register(0, DOORBELL, 0x00020001));
-    answered("peer 2 turns one-shot on", ivshmem_configuration_write(hub, WORDS, 2, PRIVILEGED_CONTROL, 1, 1));
-    delivered("peer 1 stores State 5", write_register(1, STATE, 5));
-    delivered("peer 1 stores State 5 again", write_register(1, STATE, 5));
-    delivered("peer 1 stores State 6", write_register(1, STATE, 6));
-    answered("peer 2 reads Interrupt Control", ivshmem_register_read(hub, WORDS, 2, INTERRUPT_CONTROL, 4));
-    answered("peer 0 reads its entry 0, data", ivshmem_msix_read(hub, WORDS, 0, PAYLOAD, 4));
+    delivered("peer 0 rings vector 1 at peer 2", write_register(0, IVSHMEM_REGISTER_DOORBELL, 0x00020001));
+    answered("peer 2 turns one-shot on", ivshmem_configuration_write(hub, WORDS, 2, IVSHMEM_CONFIGURATION_PRIVILEGED_CONTROL, 1, 1));
+    delivered("peer 1 stores State 5", write_register(1, IVSHMEM_REGISTER_STATE, 5));
+    delivered("peer 1 stores State 5 again", write_register(1, IVSHMEM_REGISTER_STATE, 5));
+    delivered("peer 1 stores State 6", write_register(1, IVSHMEM_REGISTER_STATE, 6));
+    answered("peer 2 reads Interrupt Control", ivshmem_register_read(hub, WORDS, 2, IVSHMEM_REGISTER_INTERRUPT_CONTROL, 4));
+    answered("peer 0 reads its entry 0, data", ivshmem_msix_read(hub, WORDS, 0, IVSHMEM_MSIX_DATA, 4));
     printf("State Table entry of peer 1: %02X %02X %02X %02X\n", region[4], region[5], region[6], region[7]);
 }
 
 static void shared_memory(void)
 {
     static const char *const kinds[] = {"no section", "the State Table", "the read/write section", "an output section"};
-    const uint64_t output1 = TABLE + COMMON + 1 * OUTPUT;
+    const uint64_t output1 = STATE_TABLE + READ_WRITE + 1 * OUTPUT;
     const uint8_t text[6] = {'m', 'o', 'r', 't', 'a', 'r'};
     uint8_t buffer[6] = {0};
     ivshmem_section s = ivshmem_section_question(hub, WORDS, 0, output1, sizeof text);
@@ -100,10 +108,10 @@ int main(void)
     answered("peer 0 reads vendor and device id", ivshmem_configuration_read(hub, WORDS, 0, 0, 4));
     doorbell_and_state();
     shared_memory();
-    delivered("peer 1 is reset", ivshmem_reset(hub, WORDS, region, TOTAL, deliveries, PEERS, 1));
+    delivered("peer 1 is reset", ivshmem_reset(hub, WORDS, region, TOTAL, table, PEERS, 1));
     delivered("peer 3 is disconnected, the table too short",
-              ivshmem_disconnect(hub, WORDS, region, TOTAL, deliveries, PEERS - 1, 3));
-    delivered("peer 3 is disconnected, its State 0", ivshmem_disconnect(hub, WORDS, region, TOTAL, deliveries, PEERS, 3));
+              ivshmem_disconnect(hub, WORDS, region, TOTAL, table, PEERS - 1, 3));
+    delivered("peer 3 is disconnected, its State 0", ivshmem_disconnect(hub, WORDS, region, TOTAL, table, PEERS, 3));
     answered("peer 3 reads its id", ivshmem_register_read(hub, WORDS, 3, 0, 4));
     memset(hub, 0xFF, sizeof hub);
     answered("connect on a hub of noise", ivshmem_connect(hub, WORDS, 0));

@@ -5,11 +5,11 @@
 
 #include "ivshmem.h"
 
-enum { TABLE = 4096, ROOM = IVSHMEM_HUB_WORDS(IVSHMEM_MAX_PEERS + 1, IVSHMEM_MAX_VECTORS + 1) + 1 };
+enum { STATE_TABLE = 4096, ROOM = IVSHMEM_HUB_WORDS(IVSHMEM_MAX_PEERS + 1, IVSHMEM_MAX_VECTORS + 1) + 1 };
 
 static uint32_t hub[ROOM];
-static uint8_t region[TABLE];
-static ivshmem_delivery deliveries[IVSHMEM_MAX_PEERS];
+static uint8_t region[STATE_TABLE];
+static ivshmem_delivery table[IVSHMEM_MAX_PEERS];
 
 static int wrong(const char *what, uint64_t number, uint64_t expected)
 {
@@ -21,7 +21,9 @@ static int wrong(const char *what, uint64_t number, uint64_t expected)
 
 static uint32_t set_up_at(uint64_t base, size_t words, uint64_t peers, uint64_t vectors)
 {
-    return ivshmem_set_up(hub, words, region, TABLE, peers, vectors, TABLE, 0, 0, base, 1, 0x110A, 0x4106).number;
+    const ivshmem_settings settings = {.peers = peers, .vectors = vectors, .state_table = STATE_TABLE, .base = base, .protocol = 1};
+
+    return ivshmem_set_up_hub(hub, words, region, STATE_TABLE, settings).number;
 }
 
 static uint32_t set_up(size_t words, uint64_t peers, uint64_t vectors)
@@ -31,7 +33,7 @@ static uint32_t set_up(size_t words, uint64_t peers, uint64_t vectors)
 
 static uint32_t reset(size_t records, uint64_t id)
 {
-    return ivshmem_reset(hub, IVSHMEM_MAX_HUB_WORDS, region, TABLE, deliveries, records, id).reply.number;
+    return ivshmem_reset(hub, IVSHMEM_MAX_HUB_WORDS, region, STATE_TABLE, table, records, id).reply.number;
 }
 
 /* A set-up that is refused, on words that hold anything: how many of them are not zero afterwards, and of those behind not as
@@ -75,7 +77,7 @@ int main(void)
     faults += refused("one peer, no words", 0, 1, vectors, IVSHMEM_BAD_SETTING);
     faults += wrong("a lower base", set_up_at(IVSHMEM_MIN_BASE - 4096, words, peers, vectors), IVSHMEM_BAD_SETTING);
     faults += wrong("the lowest base", set_up_at(IVSHMEM_MIN_BASE, words, peers, vectors), IVSHMEM_ACCEPTED);
-    faults += wrong("the last base", set_up_at(UINT64_MAX - TABLE + 1, words, peers, vectors), IVSHMEM_ACCEPTED);
+    faults += wrong("the last base", set_up_at(UINT64_MAX - STATE_TABLE + 1, words, peers, vectors), IVSHMEM_ACCEPTED);
     faults += wrong("the most", set_up(words, peers, vectors), IVSHMEM_ACCEPTED);
     faults += wrong("the last peer", ivshmem_connect(hub, words, peers - 1).number, IVSHMEM_ACCEPTED);
     faults += wrong("a peer beyond it", ivshmem_connect(hub, words, peers).number, IVSHMEM_NO_SUCH_PEER);

@@ -1,3 +1,4 @@
+pub mod QueryLaws
 pub mod RefusalLaws
 pub mod ReplyLaws
 pub mod RunLaws

@@ -78,7 +78,7 @@ pub fn set_up(
 }
 
 // 10, 3 and 5.
-fn joining_refusal(hub: &[u32], id: u64) -> u32
+pub fn joining_refusal(hub: &[u32], id: u64) -> u32
     ensures is { λ r. ⌜ r ≡ first (joiningRows (hubOf (now (hub .entry))) id) ⌝ }
     ensures facts { λ r. ⌜ (r ≡ 0 → Admitted (now (hub .entry)) nothingLent id) ⌝ }
 {

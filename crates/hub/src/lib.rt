@@ -4,6 +4,7 @@ use device::Reply;
 
 mod announcing;
 mod joining;
+mod queries;
 mod reads;
 mod refusals;
 mod shared;
@@ -14,6 +15,8 @@ pub use announcing::register_write;
 pub use announcing::reset;
 pub use joining::connect;
 pub use joining::set_up;
+pub use queries::is_connected;
+pub use queries::is_sound;
 pub use reads::configuration_read;
 pub use reads::msix_read;
 pub use reads::register_read;

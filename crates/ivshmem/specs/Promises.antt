@@ -6,6 +6,7 @@ use mathlib.Core.Path.{_≡_}
 use lib.ListN.{length}
 use Rattle.device.specs.declared.Delivery.{Delivery}
 use Rattle.device.specs.declared.SectionReply.{SectionReply}
+use Rattle.device.specs.declared.Settings.{Settings}
 use Rattle.device.specs.Call.{Act, Call, call}
 use Rattle.device.specs.Sections.{kindNumber, ownerNumber}
 use Rattle.device.specs.Step.{step, replyOf, sectionReplyOf}
@@ -13,7 +14,14 @@ use Rattle.device.specs.World.{world}
 use Rattle.deliveries.specs.Listed.{handedOut}
 use Rattle.ivshmem.specs.declared.Counted.{Counted}
 use Rattle.ivshmem.specs.declared.SectionNumbers.{SectionNumbers}
+use Rattle.ivshmem.specs.declared.SetUpNumbers.{SetUpNumbers}
+use Rattle.hub.specs.Promises.{numbers}
 use Rattle.words.specs.Layout.{hubOf}
+
+-- the settings that a host's numbers are
+abbrev pub given : SetUpNumbers → Settings
+given s =
+    numbers (s .peers) (s .vectors) (s .table) (s .common) (s .output) (s .base) (s .protocol) (s .vendor) (s .subsystem)
 
 -- A call with the table lent. Reply, hub and region are the step's; its deliveries are written over the table from the front, and
 -- their number is returned. A refusal leaves each word and each record as it was.

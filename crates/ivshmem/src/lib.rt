@@ -9,6 +9,20 @@ ghost use Rattle.ivshmem.specs.Promises.{HandsOut};
 pub mod guest;
 pub mod host;
 
+// The numbers that a hub is set up with, as a host hands them in.
+#[repr(C)]
+pub struct SetUpNumbers {
+    pub peers: u64,
+    pub vectors: u64,
+    pub table: u64,
+    pub common: u64,
+    pub output: u64,
+    pub base: u64,
+    pub protocol: u16,
+    pub vendor: u16,
+    pub subsystem: u16,
+}
+
 // An answer, and the number of records written, which is for the host alone.
 #[repr(C)]
 pub struct Counted {

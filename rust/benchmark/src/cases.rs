@@ -104,7 +104,7 @@ impl Size {
             base: 0x1_0000_0000,
             protocol: 1,
             subsystem_vendor: 0x110a,
-            subsystem: 0x4106,
+            subsystem_id: 0x4106,
         }
     }
 

@@ -44,7 +44,7 @@ macro_rules! perform_by {
             Call::MsixRead { id, offset, width } => $device::msix_read(hub, id, offset, width).into(),
             Call::MsixWrite { id, offset, width, value } => $device::msix_write(hub, id, offset, width, value).into(),
             Call::Section { id, offset, length } => {
-                let answer = $device::section(hub, id, offset, length);
+                let answer = $device::section_question(hub, id, offset, length);
                 Answer { kind: answer.kind, owner: answer.owner, store: answer.store, ..answer.reply.into() }
             }
             Call::Load { id, offset, .. } => $device::load(hub, region, id, offset, buffer).into(),

@@ -117,7 +117,7 @@ fn write_delivery(delivery: &Delivery, written: &mut Vec<u8>) {
     written.extend(delivery.target.0.to_le_bytes());
     written.extend(delivery.vector.0.to_le_bytes());
     written.extend(delivery.address.to_le_bytes());
-    written.extend(delivery.payload.to_le_bytes());
+    written.extend(delivery.data.to_le_bytes());
 }
 
 /// The call that a record is, and the byte that it stores.

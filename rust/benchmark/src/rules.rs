@@ -62,7 +62,7 @@ pub fn accepted(n: &Numbers) -> bool {
         && n.base.checked_add(total(n) - 1).is_some()
         && n.protocol <= 0xffff
         && n.subsystem_vendor <= 0xffff
-        && n.subsystem <= 0xffff
+        && n.subsystem_id <= 0xffff
 }
 
 /// Checks 6, 7 and 8 for configuration space.
@@ -133,7 +133,7 @@ fn configuration_word(n: &Numbers, r: &Registers, at: u64) -> u32 {
         0x08 => 0xff00_0000 | (n.protocol as u32) << 8,
         0x10 => r.bar0,
         0x14 => r.bar1,
-        0x2c => (n.subsystem as u32) << 16 | n.subsystem_vendor as u32,
+        0x2c => (n.subsystem_id as u32) << 16 | n.subsystem_vendor as u32,
         0x34 => 0x40,
         0x40 => r.privileged << 24 | 0x0020_6009,
         0x44 => n.state_table as u32,
@@ -194,7 +194,7 @@ pub fn passes(r: &Registers, control: u32) -> bool {
 pub fn delivery(target: usize, vector: usize, entry: &Entry) -> Delivery {
     Delivery {
         address: u64::from(entry.high) << 32 | u64::from(entry.low),
-        payload: entry.data,
+        data: entry.data,
         target: PeerId(target as u16),
         vector: Vector(vector as u16),
     }

@@ -28,7 +28,7 @@ mod painted {
 
     // Only the addresses are used.
     unsafe extern "C" {
-        fn ivshmem_set_up();
+        fn ivshmem_set_up_hub();
         fn ivshmem_connect();
         fn ivshmem_disconnect();
         fn ivshmem_reset();
@@ -47,7 +47,7 @@ mod painted {
 
     /// In the order of [`model::call::KINDS`].
     const FUNCTIONS: [(&str, Function); 13] = [
-        ("ivshmem_set_up", ivshmem_set_up),
+        ("ivshmem_set_up_hub", ivshmem_set_up_hub),
         ("ivshmem_connect", ivshmem_connect),
         ("ivshmem_disconnect", ivshmem_disconnect),
         ("ivshmem_reset", ivshmem_reset),
@@ -110,10 +110,11 @@ mod painted {
         let table = [memory.table.as_mut_ptr() as u64, MAX_PEERS as u64];
         let bytes = [memory.buffer.as_mut_ptr() as u64, SHARED_BYTES as u64];
         match *call {
+            // The settings are too large for registers, and go on the stack; the two registers that are left hold anything.
             Call::SetUp(s) => {
                 let sizes = [s.peers, s.vectors, s.state_table, s.read_write, s.output, s.base];
-                let names = [s.protocol, s.subsystem_vendor, s.subsystem].map(u64::from);
-                [&hub[..], &region, &sizes, &names].concat()
+                let [protocol, vendor, id] = [s.protocol, s.subsystem_vendor, s.subsystem_id].map(u64::from);
+                [&hub[..], &region, &[0, 0], &sizes, &[protocol | vendor << 16 | id << 32]].concat()
             }
             Call::Connect { id } => [&hub[..], &[id]].concat(),
             Call::Disconnect { id } | Call::Reset { id } => [&hub[..], &region, &table, &[id]].concat(),

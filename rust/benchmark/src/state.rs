@@ -261,14 +261,14 @@ impl State for [u32] {
             base: u64::from(words[6]) << 32 | u64::from(words[5]),
             protocol: words[7].into(),
             subsystem_vendor: words[8].into(),
-            subsystem: words[9].into(),
+            subsystem_id: words[9].into(),
         }
     }
 
     #[inline(always)]
     fn put_numbers(&mut self, n: &Numbers) {
         let sizes = [n.peers, n.vectors, n.state_table, n.read_write, n.output];
-        let rest = [n.base, n.base >> 32, n.protocol, n.subsystem_vendor, n.subsystem];
+        let rest = [n.base, n.base >> 32, n.protocol, n.subsystem_vendor, n.subsystem_id];
         for (word, number) in self.iter_mut().zip(sizes.into_iter().chain(rest)) {
             *word = number as u32;
         }

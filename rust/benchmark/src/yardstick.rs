@@ -333,7 +333,7 @@ impl<F: State + ?Sized, T: Soundness<F>> Yardstick<F, T> {
     }
 
     #[inline(never)]
-    fn section(hub: &F, id: u64, offset: u64, length: u64) -> SectionReply {
+    fn section_question(hub: &F, id: u64, offset: u64, length: u64) -> SectionReply {
         section_reply(Self::place(hub, &Lent::NOTHING, id, offset, length), id)
     }
 

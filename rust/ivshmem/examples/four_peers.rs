@@ -57,8 +57,8 @@ impl<'a> Host<'a> {
 
 fn report(peer: PeerId, what: &str, delivered: &[Delivery]) {
     println!("peer {peer} {what}");
-    for Delivery { address, payload, target, vector } in delivered {
-        println!("    interrupt for peer {target}: vector {vector}, message {payload:#x} to {address:#x}");
+    for Delivery { address, data, target, vector } in delivered {
+        println!("    interrupt for peer {target}: vector {vector}, message {data:#x} to {address:#x}");
     }
 }
 

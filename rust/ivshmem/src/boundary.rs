@@ -26,7 +26,7 @@ pub struct Delivery {
     /// The message address that the guest put into the vector's MSI-X entry.
     pub address: u64,
     /// The message data of the same entry.
-    pub payload: u32,
+    pub data: u32,
     /// The peer that is interrupted.
     pub target: PeerId,
     /// The vector that was rung.
@@ -62,11 +62,18 @@ const _: () = {
     assert!(size_of::<usize>() == 8, "the library is built for 64-bit machines");
     assert!(size_of::<PeerId>() == 2 && size_of::<Vector>() == 2);
 
+    assert!(size_of::<Settings>() == 56 && align_of::<Settings>() == 8);
+    assert!(offset_of!(Settings, peers) == 0 && offset_of!(Settings, vectors) == 8);
+    assert!(offset_of!(Settings, state_table) == 16 && offset_of!(Settings, read_write) == 24);
+    assert!(offset_of!(Settings, output) == 32 && offset_of!(Settings, base) == 40);
+    assert!(offset_of!(Settings, protocol) == 48 && offset_of!(Settings, subsystem_vendor) == 50);
+    assert!(offset_of!(Settings, subsystem_id) == 52);
+
     assert!(size_of::<Reply>() == 8 && align_of::<Reply>() == 4);
     assert!(offset_of!(Reply, number) == 0 && offset_of!(Reply, value) == 4);
 
     assert!(size_of::<Delivery>() == 16 && align_of::<Delivery>() == 8);
-    assert!(offset_of!(Delivery, address) == 0 && offset_of!(Delivery, payload) == 8);
+    assert!(offset_of!(Delivery, address) == 0 && offset_of!(Delivery, data) == 8);
     assert!(offset_of!(Delivery, target) == 12 && offset_of!(Delivery, vector) == 14);
 
     assert!(size_of::<Counted>() == 16 && align_of::<Counted>() == 8);
@@ -77,10 +84,16 @@ const _: () = {
     assert!(offset_of!(SectionReply, owner) == 12 && offset_of!(SectionReply, store) == 16);
 };
 
+// Whatever is linked with this crate asks for the archive's interface by its name: with another one it does not link.
+#[used]
+static INTERFACE_WANTED: unsafe extern "C" fn() -> u32 = ivshmem_interface_2;
+
 #[rustfmt::skip]
 unsafe extern "C" {
-    fn ivshmem_set_up(hub: *mut u32, hub_words: usize, region: *mut u8, region_bytes: usize, peers: u64, vectors: u64,
-                      table: u64, common: u64, output: u64, base: u64, protocol: u16, vendor: u16, subsystem: u16) -> Reply;
+    fn ivshmem_interface_2() -> u32;
+    fn ivshmem_set_up_hub(hub: *mut u32, hub_words: usize, region: *mut u8, region_bytes: usize, settings: Settings) -> Reply;
+    fn ivshmem_is_sound(hub: *const u32, hub_words: usize) -> u32;
+    fn ivshmem_is_connected(hub: *const u32, hub_words: usize, id: u64) -> Reply;
     fn ivshmem_connect(hub: *mut u32, hub_words: usize, id: u64) -> Reply;
     fn ivshmem_disconnect(hub: *mut u32, hub_words: usize, region: *mut u8, region_bytes: usize,
                           deliveries: *mut Delivery, records: usize, id: u64) -> Counted;
@@ -107,23 +120,19 @@ unsafe extern "C" {
 /// ([`hub_words`](crate::hub_words)); then with 2. Each of these leaves all words of `hub` zero, and the region as it was.
 pub fn set_up(hub: &mut [u32], region: &mut [u8], settings: &Settings) -> Reply {
     // SAFETY: both slices are lent for the whole call, exclusively.
-    unsafe {
-        ivshmem_set_up(
-            hub.as_mut_ptr(),
-            hub.len(),
-            region.as_mut_ptr(),
-            region.len(),
-            settings.peers,
-            settings.vectors,
-            settings.state_table,
-            settings.read_write,
-            settings.output,
-            settings.base,
-            settings.protocol,
-            settings.subsystem_vendor,
-            settings.subsystem,
-        )
-    }
+    unsafe { ivshmem_set_up_hub(hub.as_mut_ptr(), hub.len(), region.as_mut_ptr(), region.len(), *settings) }
+}
+
+/// 1 where `hub` is a sound hub, that is where no call would refuse it with 10; else 0.
+pub fn is_sound(hub: &[u32]) -> u32 {
+    // SAFETY: the slice is lent for the whole call and only read.
+    unsafe { ivshmem_is_sound(hub.as_ptr(), hub.len()) }
+}
+
+/// Value 1 where the peer is connected, else 0. Refused with 10 or 3.
+pub fn is_connected(hub: &[u32], id: u64) -> Reply {
+    // SAFETY: the slice is lent for the whole call and only read.
+    unsafe { ivshmem_is_connected(hub.as_ptr(), hub.len(), id) }
 }
 
 /// The peer joins, with all registers at their reset values; nobody is rung. Refused with 10, 3 or 5.
@@ -205,7 +214,7 @@ pub fn msix_write(hub: &mut [u32], id: u64, offset: u64, width: u64, value: u32)
 }
 
 /// Asks which section a shared range lies in and whether the peer may store to it. Refused with 10, 3, 4, 6 or 8.
-pub fn section(hub: &[u32], id: u64, offset: u64, length: u64) -> SectionReply {
+pub fn section_question(hub: &[u32], id: u64, offset: u64, length: u64) -> SectionReply {
     // SAFETY: the slice is lent for the whole call and only read.
     unsafe { ivshmem_section_question(hub.as_ptr(), hub.len(), id, offset, length) }
 }

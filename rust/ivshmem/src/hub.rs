@@ -61,6 +61,20 @@ impl<'a> Hub<'a> {
         self.words
     }
 
+    /// Whether the words are a sound hub, that is whether no call refuses them with [`Refusal::UnsoundHub`].
+    #[must_use]
+    pub fn is_sound(&self) -> bool {
+        raw::is_sound(self.words) == 1
+    }
+
+    /// Whether the peer is connected. The answer is for the host alone: no guest may learn it of another.
+    ///
+    /// # Errors
+    /// [`Refusal::UnsoundHub`] or [`Refusal::NoSuchPeer`].
+    pub fn is_connected(&self, peer: PeerId) -> Result<bool, Refusal> {
+        raw::is_connected(self.words, id(peer)).result().map(|value| value == 1)
+    }
+
     /// The peer joins with all registers at their reset values; nobody is rung.
     ///
     /// # Errors
@@ -166,8 +180,8 @@ impl<'a> Hub<'a> {
     /// # Errors
     /// [`Refusal::UnsoundHub`], [`Refusal::NoSuchPeer`], [`Refusal::NotConnected`], [`Refusal::BadWidth`] for a length of 0,
     /// or [`Refusal::OutOfRange`].
-    pub fn section(&self, peer: PeerId, offset: u64, length: u64) -> Result<Placement, Refusal> {
-        let answer = raw::section(self.words, id(peer), offset, length);
+    pub fn section_question(&self, peer: PeerId, offset: u64, length: u64) -> Result<Placement, Refusal> {
+        let answer = raw::section_question(self.words, id(peer), offset, length);
         answer.reply.result()?;
         // An accepted question always names a section, so the last arm is the output kind alone; its owner is a peer's id.
         let section = match answer.kind {
@@ -181,7 +195,7 @@ impl<'a> Hub<'a> {
     /// Fills the buffer with the shared bytes at `offset`.
     ///
     /// # Errors
-    /// As for [`section`](Hub::section), and [`Refusal::BadRegion`]; the buffer is then unchanged.
+    /// As for [`section_question`](Hub::section_question), and [`Refusal::BadRegion`]; the buffer is then unchanged.
     pub fn load(&self, region: &[u8], peer: PeerId, offset: u64, buffer: &mut [u8]) -> Result<(), Refusal> {
         done(raw::load(self.words, region, id(peer), offset, buffer))
     }

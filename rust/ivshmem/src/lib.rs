@@ -8,7 +8,7 @@
 //! The hypervisor traps a guest's accesses to the device's three spaces and passes each to the method of the same name:
 //! configuration space to [`Hub::configuration_read`] and [`Hub::configuration_write`], BAR 0 to [`Hub::register_read`] and
 //! [`Hub::register_write`], BAR 1 to [`Hub::msix_read`] and [`Hub::msix_write`]. What a guest may map is what
-//! [`Hub::section`] says; accesses that are not mapped go through [`Hub::load`] and [`Hub::store`]. Interrupts come back as
+//! [`Hub::section_question`] says; accesses that are not mapped go through [`Hub::load`] and [`Hub::store`]. Interrupts come back as
 //! [`Delivery`] records for the hypervisor to inject.
 //!
 //! # Example
@@ -42,7 +42,7 @@
 //! // The first guest rings; the host gets the interrupt to inject.
 //! let doorbell = register::doorbell(second, Vector(0));
 //! let delivered = hub.register_write(&mut region, &mut table, first, register::DOORBELL, 4, doorbell)?;
-//! assert_eq!(delivered, [Delivery { address: 0xfee0_0000, payload: 0x41, target: second, vector: Vector(0) }]);
+//! assert_eq!(delivered, [Delivery { address: 0xfee0_0000, data: 0x41, target: second, vector: Vector(0) }]);
 //!
 //! // A guest stores to its own output section, and not to the other's.
 //! hub.store(&mut region, first, 4096, b"hello")?;
@@ -96,8 +96,9 @@ pub const fn hub_words(peers: usize, vectors: usize) -> usize {
 /// refused like any other wrong argument.
 pub mod raw {
     pub use crate::boundary::{
-        Counted, Delivery, Reply, SectionReply, configuration_read, configuration_write, connect, disconnect, load,
-        msix_read, msix_write, register_read, register_write, reset, section, set_up, store,
+        Counted, Delivery, Reply, SectionReply, configuration_read, configuration_write, connect, disconnect,
+        is_connected, is_sound, load, msix_read, msix_write, register_read, register_write, reset, section_question,
+        set_up, store,
     };
 }
 

@@ -26,7 +26,8 @@ impl fmt::Display for Vector {
     }
 }
 
-/// The numbers that a hub is set up with. Sizes are in bytes.
+/// The numbers that a hub is set up with. Sizes are in bytes. It is `ivshmem_settings` of the C header.
+#[repr(C)]
 #[derive(Clone, Copy, Debug, PartialEq, Eq, Hash)]
 pub struct Settings {
     /// How many peers there are: 2 to [`MAX_PEERS`](crate::MAX_PEERS).
@@ -42,12 +43,12 @@ pub struct Settings {
     /// The region's guest physical address: a multiple of 4096, at least [`MIN_BASE`](crate::MIN_BASE), with address + total
     /// at most 2^64.
     pub base: u64,
-    /// The protocol that the peers speak.
+    /// Protocol type: what the peers speak.
     pub protocol: u16,
-    /// PCI subsystem vendor number.
+    /// PCI subsystem vendor id.
     pub subsystem_vendor: u16,
-    /// PCI subsystem number.
-    pub subsystem: u16,
+    /// PCI subsystem id.
+    pub subsystem_id: u16,
 }
 
 /// The smallest hub, which set-up takes: two peers with one vector, a State Table of one page and no other section, the region
@@ -63,7 +64,7 @@ impl Default for Settings {
             base: 0x1_0000_0000,
             protocol: 0,
             subsystem_vendor: 0,
-            subsystem: 0,
+            subsystem_id: 0,
         }
     }
 }

@@ -19,7 +19,7 @@ const SETTINGS: Settings = Settings {
     base: 0x8_0000_0000,
     protocol: 0x1234,
     subsystem_vendor: 0x110a,
-    subsystem: 0x4106,
+    subsystem_id: 0x4106,
 };
 
 const WORDS: usize = hub_words(3, 2);
@@ -60,8 +60,8 @@ impl<'a> Host<'a> {
     }
 }
 
-fn delivery(target: PeerId, payload: u32) -> Delivery {
-    Delivery { address: 0x1_fee0_0000, payload, target, vector: Vector(0) }
+fn delivery(target: PeerId, data: u32) -> Delivery {
+    Delivery { address: 0x1_fee0_0000, data, target, vector: Vector(0) }
 }
 
 #[test]
@@ -366,15 +366,15 @@ fn shared_bytes() {
         (own, Section::Output(ZERO), true),
         (own + 4096, Section::Output(ONE), false),
     ] {
-        assert_eq!(hub.section(ZERO, offset, 4096), Ok(Placement { section, may_store }));
+        assert_eq!(hub.section_question(ZERO, offset, 4096), Ok(Placement { section, may_store }));
         let stored = if may_store { Ok(()) } else { Err(Refusal::ReadOnly) };
         assert_eq!(hub.store(region, ZERO, offset + 1, b"abc"), stored);
         let mut buffer = [0xee; 5];
         assert_eq!(hub.load(region, ONE, offset, &mut buffer), Ok(()));
         assert_eq!(buffer, if may_store { *b"\0abc\0" } else { [0; 5] });
     }
-    assert_eq!(hub.section(ZERO, 4095, 2), Err(Refusal::OutOfRange));
-    assert_eq!(hub.section(ZERO, 0, 0), Err(Refusal::BadWidth));
+    assert_eq!(hub.section_question(ZERO, 4095, 2), Err(Refusal::OutOfRange));
+    assert_eq!(hub.section_question(ZERO, 0, 0), Err(Refusal::BadWidth));
     assert_eq!(hub.load(region, ZERO, 0, &mut []), Err(Refusal::BadWidth));
     let mut buffer = [0xee; 2];
     assert_eq!(hub.load(region, ZERO, 4095, &mut buffer), Err(Refusal::OutOfRange));
@@ -406,7 +406,7 @@ fn any_words_adopted() {
         let mut words = vec![0; length];
         let mut nothing = Hub::from_words(&mut words);
         assert_eq!(nothing.connect(ZERO), Err(Refusal::UnsoundHub));
-        assert_eq!(nothing.section(ZERO, 0, 1), Err(Refusal::UnsoundHub));
+        assert_eq!(nothing.section_question(ZERO, 0, 1), Err(Refusal::UnsoundHub));
         assert_eq!(nothing.words(), vec![0; length]);
     }
     let mut words = ANY;
@@ -427,7 +427,10 @@ fn raw_calls_take_any_length() {
         let mut words = vec![7; length];
         assert_eq!(raw::connect(&mut words, 0).number, 10);
         assert_eq!(raw::disconnect(&mut words, &mut [], &mut [], 0).reply.number, 10);
-        assert_eq!(raw::section(&words, 0, 0, 1), raw::SectionReply { reply: refused(10), ..Default::default() });
+        assert_eq!(
+            raw::section_question(&words, 0, 0, 1),
+            raw::SectionReply { reply: refused(10), ..Default::default() }
+        );
         assert_eq!(words, vec![7; length]);
     }
     let mut words = host.hub.words().to_vec();

@@ -33,7 +33,7 @@ fn two_guests(log: &mut Log<File>) -> Result<(), Box<dyn Error>> {
     hub.msix_write(SECOND, msix::CONTROL, 4, 0)?;
     hub.register_write(&mut region, &mut table, SECOND, register::INTERRUPT_CONTROL, 4, 1)?;
 
-    hub.section(FIRST, 4096, 4096)?;
+    hub.section_question(FIRST, 4096, 4096)?;
     hub.store(&mut region, FIRST, 4096, b"hi")?;
     hub.register_write(&mut region, &mut table, FIRST, register::DOORBELL, 4, register::doorbell(SECOND, Vector(0)))?;
     hub.load(&region, SECOND, 4096, &mut [0; 2])?;

@@ -77,13 +77,13 @@ fn encode_delivery(delivery: &Delivery, written: &mut Vec<u8>) {
     written.extend(delivery.target.0.to_le_bytes());
     written.extend(delivery.vector.0.to_le_bytes());
     written.extend(delivery.address.to_le_bytes());
-    written.extend(delivery.payload.to_le_bytes());
+    written.extend(delivery.data.to_le_bytes());
 }
 
 fn decode_delivery(fields: &mut Fields<'_>) -> Option<Delivery> {
     fields.one()?;
     let (target, vector) = (PeerId(fields.two()?), Vector(fields.two()?));
-    Some(Delivery { target, vector, address: fields.eight()?, payload: fields.four()? })
+    Some(Delivery { target, vector, address: fields.eight()?, data: fields.four()? })
 }
 
 /// How what a player wrote ends.

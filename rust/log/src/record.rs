@@ -17,7 +17,7 @@ pub struct SetUp {
     pub base: u64,
     pub protocol: u16,
     pub subsystem_vendor: u16,
-    pub subsystem: u16,
+    pub subsystem_id: u16,
 }
 
 impl From<SetUp> for Settings {
@@ -31,7 +31,7 @@ impl From<SetUp> for Settings {
             base: set_up.base,
             protocol: set_up.protocol,
             subsystem_vendor: set_up.subsystem_vendor,
-            subsystem: set_up.subsystem,
+            subsystem_id: set_up.subsystem_id,
         }
     }
 }
@@ -49,7 +49,7 @@ impl SetUp {
             base: settings.base,
             protocol: settings.protocol,
             subsystem_vendor: settings.subsystem_vendor,
-            subsystem: settings.subsystem,
+            subsystem_id: settings.subsystem_id,
         })
     }
 }
@@ -190,7 +190,7 @@ fn encode_set_up(set_up: &SetUp, log: &mut Vec<u8>) {
     for number in [set_up.read_write, set_up.output, set_up.base] {
         log.extend(number.to_le_bytes());
     }
-    for number in [set_up.protocol, set_up.subsystem_vendor, set_up.subsystem] {
+    for number in [set_up.protocol, set_up.subsystem_vendor, set_up.subsystem_id] {
         log.extend(number.to_le_bytes());
     }
 }
@@ -206,7 +206,7 @@ fn decode_set_up(body: &mut Fields<'_>) -> Option<SetUp> {
         base: body.eight()?,
         protocol: body.two()?,
         subsystem_vendor: body.two()?,
-        subsystem: body.two()?,
+        subsystem_id: body.two()?,
     })
 }
 

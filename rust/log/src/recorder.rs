@@ -235,8 +235,8 @@ impl<'a, W: Write> Recorder<'a, W> {
     ///
     /// # Errors
     /// The hub's refusal.
-    pub fn section(&mut self, peer: PeerId, offset: u64, length: u64) -> Result<Placement, Refusal> {
-        let answer = self.hub.section(peer, offset, length);
+    pub fn section_question(&mut self, peer: PeerId, offset: u64, length: u64) -> Result<Placement, Refusal> {
+        let answer = self.hub.section_question(peer, offset, length);
         let text = || answer.as_ref().map_or_else(|refusal| refused_text(*refusal), placement_text);
         self.log.note(Why::NoRecord, || question_text(peer, offset, length), text);
         answer

@@ -160,12 +160,12 @@ pub(crate) fn set_up_text(settings: &Settings) -> String {
 
 /// What else a set-up says.
 pub(crate) fn set_up_details(settings: &Settings) -> [String; 2] {
-    let Settings { state_table, read_write, output, protocol, subsystem_vendor, subsystem, .. } = *settings;
-    let numbers = [protocol, subsystem_vendor, subsystem].map(|number| Hex(number.into()));
-    let [protocol, vendor, subsystem] = numbers;
+    let Settings { state_table, read_write, output, protocol, subsystem_vendor, subsystem_id, .. } = *settings;
+    let numbers = [protocol, subsystem_vendor, subsystem_id].map(|number| Hex(number.into()));
+    let [protocol, vendor, subsystem_id] = numbers;
     [
         format!("State Table {state_table}, R/W {read_write}, outputs {output}, base {}", Hex(settings.base)),
-        format!("protocol {protocol}, subsystem vendor {vendor}, subsystem {subsystem}"),
+        format!("protocol {protocol}, subsystem vendor {vendor}, subsystem {subsystem_id}"),
     ]
 }
 
@@ -207,8 +207,8 @@ pub(crate) fn placement_text(placement: &Placement) -> String {
 }
 
 fn interrupt_text(delivery: &Delivery) -> String {
-    let Delivery { address, payload, target, vector } = *delivery;
-    format!("interrupt to peer {target}, vector {vector}, address {}, data {}", Hex(address), Hex(payload.into()))
+    let Delivery { address, data, target, vector } = *delivery;
+    format!("interrupt to peer {target}, vector {vector}, address {}, data {}", Hex(address), Hex(data.into()))
 }
 
 impl fmt::Display for Answer {

@@ -25,7 +25,7 @@ fn one_of_each() -> [(Record, Vec<u8>); 12] {
         base: 0x201f_1e1d_1c1b_1a19,
         protocol: 0x2221,
         subsystem_vendor: 0x2423,
-        subsystem: 0x2625,
+        subsystem_id: 0x2625,
     };
     let records = [
         Record::SetUp(set_up),
@@ -76,7 +76,7 @@ fn the_case_of_the_rules() {
         base: 0x10_0000,
         protocol: 1,
         subsystem_vendor: 0x110a,
-        subsystem: 0x4106,
+        subsystem_id: 0x4106,
     };
     #[rustfmt::skip]
     let bytes = [
@@ -154,7 +154,7 @@ fn random_answer(random: &mut Random) -> Answer {
             (0..random.below(4))
                 .map(|_| Delivery {
                     address: random.long(),
-                    payload: random.word(),
+                    data: random.word(),
                     target: PeerId(random.word() as u16),
                     vector: Vector(random.word() as u16),
                 })
@@ -165,12 +165,8 @@ fn random_answer(random: &mut Random) -> Answer {
 
 #[test]
 fn answers_are_read_as_written() {
-    let delivery = Delivery {
-        address: 0x0c0b_0a09_0807_0605,
-        payload: 0x100f_0e0d,
-        target: PeerId(0x0201),
-        vector: Vector(0x0403),
-    };
+    let delivery =
+        Delivery { address: 0x0c0b_0a09_0807_0605, data: 0x100f_0e0d, target: PeerId(0x0201), vector: Vector(0x0403) };
     let mut bytes = Vec::new();
     Answer::Done(vec![delivery]).encode(&mut bytes);
     assert_eq!(bytes, [&[0x81, 0x83][..], &(1..=16).collect::<Vec<u8>>()].concat());

@@ -156,7 +156,7 @@ fn perform(log: &mut Log<Vec<u8>>, call: &Call, lent: Lent<'_>) -> Whole {
         }
         Call::MsixRead { offset, width, .. } => answered(hub.msix_read(peer, offset, width), read),
         Call::MsixWrite { offset, width, value, .. } => answered(hub.msix_write(peer, offset, width, value), done),
-        Call::Section { offset, length, .. } => answered(hub.section(peer, offset, length), placed),
+        Call::Section { offset, length, .. } => answered(hub.section_question(peer, offset, length), placed),
         Call::Load { offset, .. } => answered(hub.load(region, peer, offset, buffer), done),
         Call::Store { offset, .. } => answered(hub.store(region, peer, offset, buffer), done),
     }
@@ -252,7 +252,7 @@ const SETTINGS: Settings = Settings {
     base: 0x10_0000,
     protocol: 1,
     subsystem_vendor: 0x110a,
-    subsystem: 0x4106,
+    subsystem_id: 0x4106,
 };
 const WORDS: usize = hub_words(2, 1);
 const TOTAL: usize = 4 * 4096;
@@ -291,8 +291,8 @@ fn what_a_log_cannot_hold_is_noted_in_words() {
     let mut hub = Recorder::set_up(&mut words, &SETTINGS, &mut region, &mut log).unwrap();
     hub.connect(ZERO).unwrap();
     assert!(hub.log().is_complete());
-    assert_eq!(hub.section(ZERO, 8192, 4).map(|placement| placement.may_store), Ok(true));
-    assert_eq!(hub.section(ZERO, 0, 0), Err(Refusal::BadWidth));
+    assert_eq!(hub.section_question(ZERO, 8192, 4).map(|placement| placement.may_store), Ok(true));
+    assert_eq!(hub.section_question(ZERO, 0, 0), Err(Refusal::BadWidth));
     assert_eq!(hub.store(&mut region, ZERO, 8191, b"ab"), Err(Refusal::OutOfRange));
     assert_eq!(hub.load(&region, ZERO, 0, &mut []), Err(Refusal::BadWidth));
     assert_eq!(hub.store(&mut region, ZERO, 1 << 32, b"a"), Err(Refusal::OutOfRange));
@@ -405,7 +405,7 @@ fn notes_are_bounded_and_all_are_counted() {
     let mut log = Log::new(Vec::new());
     let mut hub = Recorder::from_words(&mut words, &mut log);
     for offset in 0..2 * MOST_NOTES as u64 {
-        assert_eq!(hub.section(ZERO, offset, 1), Err(Refusal::UnsoundHub));
+        assert_eq!(hub.section_question(ZERO, offset, 1), Err(Refusal::UnsoundHub));
     }
     assert_eq!((log.notes().len(), log.noted()), (MOST_NOTES, 2 * MOST_NOTES as u64));
     assert!(log.notes()[MOST_NOTES - 1].call.ends_with("at 1023"));

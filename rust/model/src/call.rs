@@ -115,7 +115,7 @@ impl fmt::Display for Call {
                 s.base,
                 s.protocol,
                 s.subsystem_vendor,
-                s.subsystem
+                s.subsystem_id
             ),
             Call::Connect { id } | Call::Disconnect { id } | Call::Reset { id } => write!(f, "{kind} peer {id}"),
             Call::ConfigurationRead { id, offset, width }

@@ -618,7 +618,7 @@ pub fn good_settings(random: &mut Random) -> Settings {
         base: MIN_BASE,
         protocol: random.word() as u16,
         subsystem_vendor: random.word() as u16,
-        subsystem: random.word() as u16,
+        subsystem_id: random.word() as u16,
     };
     if peers > 4 {
         settings.output = settings.output.min(PAGE);

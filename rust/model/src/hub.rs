@@ -25,7 +25,7 @@ pub struct Numbers {
     pub base: u64,
     pub protocol: u64,
     pub subsystem_vendor: u64,
-    pub subsystem: u64,
+    pub subsystem_id: u64,
 }
 
 impl From<&ivshmem::Settings> for Numbers {
@@ -39,7 +39,7 @@ impl From<&ivshmem::Settings> for Numbers {
             base: s.base,
             protocol: s.protocol.into(),
             subsystem_vendor: s.subsystem_vendor.into(),
-            subsystem: s.subsystem.into(),
+            subsystem_id: s.subsystem_id.into(),
         }
     }
 }
@@ -55,7 +55,7 @@ impl Numbers {
         base: 0,
         protocol: 0,
         subsystem_vendor: 0,
-        subsystem: 0,
+        subsystem_id: 0,
     };
 
     /// T = S + R + N*O; 128 bits hold it whatever the numbers are.
@@ -82,7 +82,7 @@ impl Numbers {
             && whole_pages(self.base)
             && self.base >= MIN_BASE
             && u128::from(self.base) + self.total() <= 1 << 64
-            && [self.protocol, self.subsystem_vendor, self.subsystem].iter().all(|&n| n <= 0xffff)
+            && [self.protocol, self.subsystem_vendor, self.subsystem_id].iter().all(|&n| n <= 0xffff)
     }
 }
 
@@ -383,7 +383,7 @@ impl Hub {
         put(0x10, &peer.bar0.to_le_bytes());
         put(0x14, &peer.bar1.to_le_bytes());
         put(0x2c, &(numbers.subsystem_vendor as u16).to_le_bytes());
-        put(0x2e, &(numbers.subsystem as u16).to_le_bytes());
+        put(0x2e, &(numbers.subsystem_id as u16).to_le_bytes());
         put(0x34, &[0x40]);
         put(0x40, &[0x09, 0x60, 0x20, peer.privileged as u8]);
         put(0x44, &(numbers.state_table as u32).to_le_bytes());
@@ -556,7 +556,7 @@ impl Hub {
         let peer = &mut self.peers[target as usize];
         let delivery = Delivery {
             address: u64::from(entry.high) << 32 | u64::from(entry.low),
-            payload: entry.data,
+            data: entry.data,
             target: PeerId(target as u16),
             vector: Vector(vector as u16),
         };

@@ -39,7 +39,7 @@ pub fn decode_numbers(words: &[u32]) -> Numbers {
         base: number(BASE_WORDS[1]) << 32 | number(BASE_WORDS[0]),
         protocol: number(7),
         subsystem_vendor: number(8),
-        subsystem: number(9),
+        subsystem_id: number(9),
     }
 }
 
@@ -87,7 +87,8 @@ pub fn encode(hub: &Hub) -> Vec<u32> {
     let n = &hub.numbers;
     let mut words = vec![0; hub_words(n) as usize];
     let numbers = [n.peers, n.vectors, n.state_table, n.read_write, n.output, n.base & 0xffff_ffff, n.base >> 32];
-    for (word, number) in words.iter_mut().zip(numbers.into_iter().chain([n.protocol, n.subsystem_vendor, n.subsystem]))
+    for (word, number) in
+        words.iter_mut().zip(numbers.into_iter().chain([n.protocol, n.subsystem_vendor, n.subsystem_id]))
     {
         *word = number as u32;
     }

@@ -27,7 +27,7 @@ pub fn record(call: &Call) -> Option<Vec<u8>> {
         Call::SetUp(s) => {
             let numbers =
                 [(s.peers, 2), (s.vectors, 2), (s.state_table, 4), (s.read_write, 8), (s.output, 8), (s.base, 8)];
-            let others = [s.protocol, s.subsystem_vendor, s.subsystem].map(|number| (number.into(), 2));
+            let others = [s.protocol, s.subsystem_vendor, s.subsystem_id].map(|number| (number.into(), 2));
             fields(0x00, &[&numbers[..], &others].concat())
         }
         Call::Connect { id } => fields(0x01, &[(id, 2)]),
@@ -137,7 +137,7 @@ impl Desk {
             base: field(25..33),
             protocol: field(33..35),
             subsystem_vendor: field(35..37),
-            subsystem: field(37..39),
+            subsystem_id: field(37..39),
         };
         self.hub = Hub::NONE;
         if numbers.total() > LARGEST_TOTAL {
@@ -155,7 +155,7 @@ fn write_delivery(delivery: &Delivery, written: &mut Vec<u8>) {
     written.extend(delivery.target.0.to_le_bytes());
     written.extend(delivery.vector.0.to_le_bytes());
     written.extend(delivery.address.to_le_bytes());
-    written.extend(delivery.payload.to_le_bytes());
+    written.extend(delivery.data.to_le_bytes());
 }
 
 /// Cuts what it is given into records and has each answered. Everything that could go wrong with it can be put in its place.

@@ -196,7 +196,7 @@ fn field_of(call: &mut Call, field: usize) -> Option<Field<'_>> {
             Field::Base(&mut s.base),
             Field::Half(&mut s.protocol),
             Field::Half(&mut s.subsystem_vendor),
-            Field::Half(&mut s.subsystem),
+            Field::Half(&mut s.subsystem_id),
         ],
         Call::Connect { id } | Call::Disconnect { id } | Call::Reset { id } => vec![Field::Long(id)],
         Call::ConfigurationRead { id, offset, width }

@@ -75,7 +75,7 @@ impl Subject for Library {
             Call::MsixRead { id, offset, width } => raw::msix_read(words, id, offset, width).into(),
             Call::MsixWrite { id, offset, width, value } => raw::msix_write(words, id, offset, width, value).into(),
             Call::Section { id, offset, length } => {
-                let answer = raw::section(words, id, offset, length);
+                let answer = raw::section_question(words, id, offset, length);
                 Answer { kind: answer.kind, owner: answer.owner, store: answer.store, ..answer.reply.into() }
             }
             Call::Load { id, offset, .. } => raw::load(words, region, id, offset, buffer).into(),

@@ -134,7 +134,7 @@ impl World {
     /// Records that no delivery is equal to.
     fn fill_table(&mut self) {
         for (at, record) in (0xde00..).zip(&mut self.table) {
-            *record = Delivery { address: at.into(), payload: at.into(), target: PeerId(at), vector: Vector(at) };
+            *record = Delivery { address: at.into(), data: at.into(), target: PeerId(at), vector: Vector(at) };
         }
     }
 

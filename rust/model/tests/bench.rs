@@ -96,7 +96,7 @@ fn doorbell_names_vector_and_id() {
     for (offset, value) in [(0x18, 0x99), (0x1c, 0)] {
         assert_eq!(bench.number(Call::MsixWrite { id: 3, offset, width: 4, value }), 0);
     }
-    let delivered = Delivery { address: 0, payload: 0x99, target: PeerId(3), vector: Vector(1) };
+    let delivered = Delivery { address: 0, data: 0x99, target: PeerId(3), vector: Vector(1) };
     assert_eq!(bench.register(0, 0x0c, 0x0003_0001), [delivered]);
 }
 
@@ -127,7 +127,7 @@ fn whole_list() {
     bench.write(3, 0x43, 1, 1);
     bench.write(1, 0x04, 2, 0x0002);
 
-    let to = |id, payload| Delivery { address: 0xfee0_0000, payload, target: PeerId(id), vector: Vector(0) };
+    let to = |id, data| Delivery { address: 0xfee0_0000, data, target: PeerId(id), vector: Vector(0) };
     assert_eq!(bench.register(1, 0x10, 5), [to(0, 0x40), to(3, 0x43)]);
     assert_eq!(bench.0.world().region()[4..8], [5, 0, 0, 0]);
     assert_eq!(bench.answer(Call::RegisterRead { id: 3, offset: 0x08, width: 4 }).value, 0);
@@ -140,7 +140,7 @@ fn whole_list() {
 /// takes the value in any case, and what it held before does not matter.
 #[test]
 fn state_that_changes_and_that_does_not() {
-    let to_zero = Delivery { address: 0xfee0_0000, payload: 0x40, target: PeerId(0), vector: Vector(0) };
+    let to_zero = Delivery { address: 0xfee0_0000, data: 0x40, target: PeerId(0), vector: Vector(0) };
     let store = Call::RegisterWrite { id: 1, offset: 0x10, width: 4, value: 5 };
     for (call, value) in [(store, 5), (Call::Reset { id: 1 }, 0), (Call::Disconnect { id: 1 }, 0)] {
         for (register, entry) in [(0, 0), (0, 5), (5, 0), (5, 5), (0x0100_0005, 5), (5, 0x0100_0005)] {
@@ -210,12 +210,8 @@ fn largest() -> Bench {
 #[test]
 fn all_others_of_sixty_four() {
     let mut bench = largest();
-    let to = |id: u16| Delivery {
-        address: 0xfee0_0000,
-        payload: 0x100 + u32::from(id),
-        target: PeerId(id),
-        vector: Vector(0),
-    };
+    let to =
+        |id: u16| Delivery { address: 0xfee0_0000, data: 0x100 + u32::from(id), target: PeerId(id), vector: Vector(0) };
     let others = |sender: u64| (0..64).filter(|&id| u64::from(id) != sender).map(to).collect::<Vec<_>>();
     for id in [0, 31, 63] {
         assert_eq!(bench.register(id, 0x10, 5), others(id));
@@ -239,7 +235,7 @@ fn all_others_of_sixty_four() {
 #[test]
 fn last_peer_and_last_vector() {
     let mut bench = largest();
-    let last = Delivery { address: 1 << 32, payload: 0x23f, target: PeerId(63), vector: Vector(15) };
+    let last = Delivery { address: 1 << 32, data: 0x23f, target: PeerId(63), vector: Vector(15) };
     assert_eq!(bench.register(0, 0x0c, 0x003f_000f), [last]);
     assert_eq!(bench.register(0, 0x0c, 0x003f_0010), []);
     assert_eq!(bench.register(0, 0x0c, 0x0040_000f), []);

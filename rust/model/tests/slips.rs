@@ -230,7 +230,7 @@ fn touches_a_later_record() {
         |model: &mut Model, call: &Call, mut lent: Lent<'_>| {
             let answer = model.perform(call, again(&mut lent));
             if let Some(record) = lent.table.get_mut(answer.count).filter(|_| answer.count > 0) {
-                record.payload = 0;
+                record.data = 0;
             }
             answer
         }
