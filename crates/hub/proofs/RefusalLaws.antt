@@ -9,7 +9,7 @@ use lib.ListN.{length}
 use borrow.Author.Tests.{eqb-true, eqb-false, leb-false, ltb-false, not-false}
 use Rattle.common.specs.Tests.{first}
 use Rattle.common.proofs.TestLaws.{and-right, below-true, first-none, first-parts}
-use Rattle.device.specs.Call.{Act, call}
+use Rattle.device.specs.Call.{Act, Call, call}
 use Rattle.device.specs.Refusal.{Lent, Access, checks, lentTo, accessOf, wrongRegion, shortTable, missing, present, wrongWidth, misaligned, outside, forbidden, isConnected, refusal}
 use Rattle.device.specs.Reset.{resetPeer}
 use Rattle.device.specs.Sections.{sectionOf, somewhere}
@@ -57,18 +57,35 @@ unfolding refusal
 by-kind h region id act lent access l a = rw (l, a)
 
 -- configuration space
-pub configuration-refusal : (h : Hub) (region : List ℕ) (id : ℕ) (act : Act) (at w : ℕ) →
+configuration-refusal : (h : Hub) (region : List ℕ) (id : ℕ) (act : Act) (at w : ℕ) →
     lentTo act ≡ Lent.nothing → accessOf act ≡ Access.configuration at w →
     refusal (world h region) (call id act) ≡ first (admission h nothingLent id ++ spaceRows 256 (anyWidth w) at w)
 unfolding first wrongRegion shortTable missing present wrongWidth misaligned outside forbidden isConnected
 configuration-refusal h region id act at w l a = by-kind h region id act Lent.nothing (Access.configuration at w) l a
 
 -- the register region and the MSI-X region
-pub region-refusal : (h : Hub) (region : List ℕ) (id : ℕ) (act : Act) (at w : ℕ) →
+region-refusal : (h : Hub) (region : List ℕ) (id : ℕ) (act : Act) (at w : ℕ) →
     lentTo act ≡ Lent.nothing → accessOf act ≡ Access.registers at w →
     refusal (world h region) (call id act) ≡ first (admission h nothingLent id ++ spaceRows 4096 (eqb w 4) at w)
 unfolding first wrongRegion shortTable missing present wrongWidth misaligned outside forbidden isConnected
 region-refusal h region id act at w l a = by-kind h region id act Lent.nothing (Access.registers at w) l a
+
+-- what a call is refused with, whatever the region holds
+abbrev pub Checked : List ℕ → Call → ℕ → Type 0
+Checked ws c n = (region : List ℕ) → refusal (world (hubOf ws) region) c ≡ n
+
+-- the code's checks of an access to a space, with nothing lent: configuration space, and the two regions
+pub configuration-checked : (ws : List ℕ) (id : ℕ) (act : Act) (at w n : ℕ) (lent : Lending) →
+    lentTo act ≡ Lent.nothing → accessOf act ≡ Access.configuration at w → lent ≡ nothingLent →
+    n ≡ first (admission (hubOf ws) lent id ++ spaceRows 256 (anyWidth w) at w) → Checked ws (call id act) n
+configuration-checked ws id act at w n lent l a none e region =
+    configuration-refusal (hubOf ws) region id act at w l a ∙ sym (rw none at e)
+
+pub region-checked : (ws : List ℕ) (id : ℕ) (act : Act) (at w n : ℕ) (lent : Lending) →
+    lentTo act ≡ Lent.nothing → accessOf act ≡ Access.registers at w → lent ≡ nothingLent →
+    n ≡ first (admission (hubOf ws) lent id ++ spaceRows 4096 (eqb w 4) at w) → Checked ws (call id act) n
+region-checked ws id act at w n lent l a none e region =
+    region-refusal (hubOf ws) region id act at w l a ∙ sym (rw none at e)
 
 -- the section question
 pub question-refusal : (h : Hub) (region : List ℕ) (id at n : ℕ) →

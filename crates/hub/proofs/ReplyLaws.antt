@@ -11,7 +11,8 @@ use Rattle.device.specs.Step.{Outcome, step, refused, replyOf, sectionReplyOf, 
 use Rattle.device.specs.World.{World, world}
 use Rattle.device.proofs.StepLaws.{refused-changes-nothing, accepted-effect}
 use Rattle.words.specs.Layout.{hubOf}
-use Rattle.hub.specs.Promises.{Changes}
+use Rattle.hub.specs.Promises.{Answers, Changes}
+use Rattle.hub.proofs.RefusalLaws.{Checked}
 
 abbrev pub refusedBy : ℕ → Reply
 refusedBy n = record { number = n; value = 0 }
@@ -37,9 +38,19 @@ pub question-accepted : (w : World) (c : Call) → refusal w c ≡ 0 →
     (sectionReplyOf (step w c))
 question-accepted w c e = sym (ap (λ (o : Outcome). sectionReplyOf o) (accepted-effect w c e))
 
+-- A read: refused, and accepted.
+pub answers-refused : (ws : List ℕ) (c : Call) (n : ℕ) (r : Reply) → Checked ws c n → (n ≡ 0 → ⊥) → r ≡ refusedBy n →
+    Answers ws c r
+answers-refused ws c n r e some a = λ region. a ∙ reply-refused _ c n (e region) some
+
+pub answers-accepted : (ws : List ℕ) (c : Call) (n value : ℕ) → Checked ws c n → n ≡ 0 →
+    ((region : List ℕ) → value ≡ effectIn (world (hubOf ws) region) c .value) →
+    Answers ws c (record { number = 0; value = value })
+answers-accepted ws c n value e z v = λ region. reply-accepted _ c value (e region ∙ z) (v region)
+
 -- A call that changes the hub and is not lent the region: refused, and accepted.
-pub changes-refused : (ws : List ℕ) (c : Call) (n : ℕ) (r : Reply) → ((region : List ℕ) → refusal (world (hubOf ws) region) c ≡ n) →
-    (n ≡ 0 → ⊥) → r ≡ refusedBy n → Changes ws ws c r
+pub changes-refused : (ws : List ℕ) (c : Call) (n : ℕ) (r : Reply) → Checked ws c n → (n ≡ 0 → ⊥) → r ≡ refusedBy n →
+    Changes ws ws c r
 changes-refused ws c n r e some a =
     record {
       reply = λ region. a ∙ reply-refused _ c n (e region) some;
@@ -47,15 +58,14 @@ changes-refused ws c n r e some a =
       kept = λ p. refl;
     }
 
-pub changes-accepted : (before after : List ℕ) (c : Call) (r : Reply) →
-    ((region : List ℕ) → refusal (world (hubOf before) region) c ≡ 0) → r ≡ refusedBy 0 →
+pub changes-accepted : (before after : List ℕ) (c : Call) (n : ℕ) (r : Reply) → Checked before c n → n ≡ 0 → r ≡ refusedBy 0 →
     ((region : List ℕ) → 0 ≡ effectIn (world (hubOf before) region) c .value) →
     ((region : List ℕ) →
     hubOf after ≡ runAll (c .who) (world (hubOf before) region) (effectIn (world (hubOf before) region) c .operations) .world .hub) →
     Changes before after c r
-changes-accepted before after c r e a value hub =
+changes-accepted before after c n r e z a value hub =
     record {
-      reply = λ region. a ∙ reply-accepted _ c 0 (e region) (value region);
-      hub = λ region. hub region ∙ sym (ap (λ (o : Outcome). o .world .hub) (accepted-effect _ c (e region)));
+      reply = λ region. a ∙ reply-accepted _ c 0 (e region ∙ z) (value region);
+      hub = λ region. hub region ∙ sym (ap (λ (o : Outcome). o .world .hub) (accepted-effect _ c (e region ∙ z)));
       kept = λ p. absurd (p (ap (λ (x : Reply). x .number) a));
     }

@@ -44,8 +44,8 @@ unfolding effect runAll run
 returns-2 c =
     let a = c .before .before .before .before .before .before .before .before .before .before .args in
     let z = sym (c .before .before .before .before .before .before .before .joining-refusal .ensures .0) ∙ c .before .before .before .before .before .before .if1 .left in
-    changes-accepted (a .hub .now) _ _ _
-    (λ region. connect-refusal (hubOf (a .hub .now)) region (a .id) ∙ z)
+    changes-accepted (a .hub .now) _ _ _ _
+    (λ region. connect-refusal (hubOf (a .hub .now)) region (a .id)) z
     (c .answered2 .ensures) (λ region. refl)
     (λ region. rw (c .before .before .before .before .reset .ensures, joining-slot (a .hub .now) (a .id) z) at (c .before .before .before .put-peer .ensures))
 

@@ -1,5 +1,5 @@
 -- `hub::reads::configuration_read` meets its contract: a refusal is the table's, and an accepted read is its effect.
-use mathlib.Core.Path.{refl, sym, _∙_}
+use mathlib.Core.Path.{refl}
 use native.Mathlib.Omega.{arith}
 use borrow.Author.Needs.{needs}
 use Rattle.device.specs.Call.{Act}
@@ -7,8 +7,8 @@ use Rattle.device.specs.Effect.{effect}
 use Rattle.device.specs.Refusal.{lentTo, accessOf}
 use Rattle.device.proofs.ConfigurationLaws.{in-one-word}
 use Rattle.words.specs.Layout.{hubOf}
-use Rattle.hub.proofs.RefusalLaws.{configuration-refusal, any-width}
-use Rattle.hub.proofs.ReplyLaws.{reply-refused, reply-accepted}
+use Rattle.hub.proofs.RefusalLaws.{configuration-checked, any-width}
+use Rattle.hub.proofs.ReplyLaws.{answers-refused, answers-accepted}
 use Rattle.hub.proofs.reads.configuration_read.Statement.{statement}
 use Rattle.hub.proofs.reads.configuration_read.Tie as tie
 
@@ -25,11 +25,10 @@ returns : tie.Need-returns
 unfolding lentTo accessOf
 returns c =
     let a = c .before .before .before .before .before .args in
-    let n = rw (c .before .before .before .nothing-lent .ensures) at (c .before .before .space-refusal .ensures .0) in
-    λ region.
-    c .answered .ensures
-    ∙ reply-refused _ _ (c .before .before .space-refusal .result)
-    (configuration-refusal (hubOf (a .hub .now)) region (a .id) (Act.configurationRead (a .offset) (a .width)) (a .offset) (a .width) refl refl ∙ sym n) (c .before .if1 .taken)
+    answers-refused (a .hub .now) _ _ _
+    (configuration-checked (a .hub .now) (a .id) (Act.configurationRead (a .offset) (a .width)) (a .offset) (a .width) _ _ refl refl
+    (c .before .before .before .nothing-lent .ensures) (c .before .before .space-refusal .ensures .0))
+    (c .before .if1 .taken) (c .answered .ensures)
 
 settings-requires : tie.Need-settings-requires
 settings-requires c κs = c .before .space-refusal .ensures .1 .0 (c .if1 .left) .room
@@ -51,11 +50,10 @@ returns-2 : tie.Need-returns-2
 unfolding lentTo accessOf effect
 returns-2 c =
     let a = c .before .before .before .before .before .before .before .args in
-    let n = rw (c .before .before .before .before .before .nothing-lent .ensures) at (c .before .before .before .before .space-refusal .ensures .0) in
-    λ region.
-    reply-accepted _ _ (c .read .result)
-    (configuration-refusal (hubOf (a .hub .now)) region (a .id) (Act.configurationRead (a .offset) (a .width)) (a .offset) (a .width) refl refl ∙ sym n ∙ c .before .before .before .if1 .left)
-    (rw (c .read .ensures .0, c .before .before .settings .ensures, c .before .peer .ensures))
+    answers-accepted (a .hub .now) _ _ (c .read .result)
+    (configuration-checked (a .hub .now) (a .id) (Act.configurationRead (a .offset) (a .width)) (a .offset) (a .width) _ _ refl refl
+    (c .before .before .before .before .before .nothing-lent .ensures) (c .before .before .before .before .space-refusal .ensures .0))
+    (c .before .before .before .if1 .left) (λ region. rw (c .read .ensures .0, c .before .before .settings .ensures, c .before .peer .ensures))
 
 pub configuration-read-spec : {M : Type 1} → statement M
 configuration-read-spec =

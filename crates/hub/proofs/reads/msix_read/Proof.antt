@@ -1,6 +1,6 @@
 -- `hub::reads::msix_read` meets its contract: a refusal is the table's, and an accepted read is its effect, in three cases.
 use Prim.Native.Nat.{_/_, _<_}
-use mathlib.Core.Path.{refl, sym, _∙_}
+use mathlib.Core.Path.{refl}
 use native.Mathlib.Omega.{arith}
 use borrow.Author.Needs.{needs}
 use borrow.Author.Tests.{eqb-true, not-true, not-false, ltb-true}
@@ -9,8 +9,8 @@ use Rattle.device.specs.Effect.{effect}
 use Rattle.device.specs.Msix.{msixRead, tableWord, inTable}
 use Rattle.device.specs.Refusal.{lentTo, accessOf}
 use Rattle.words.specs.Layout.{hubOf}
-use Rattle.hub.proofs.RefusalLaws.{region-refusal}
-use Rattle.hub.proofs.ReplyLaws.{reply-refused, reply-accepted}
+use Rattle.hub.proofs.RefusalLaws.{region-checked}
+use Rattle.hub.proofs.ReplyLaws.{answers-refused, answers-accepted}
 use Rattle.hub.proofs.reads.msix_read.Statement.{statement}
 use Rattle.hub.proofs.reads.msix_read.Tie as tie
 
@@ -27,11 +27,10 @@ returns : tie.Need-returns
 unfolding lentTo accessOf
 returns c =
     let a = c .before .before .before .before .before .args in
-    let n = rw (c .before .before .before .nothing-lent .ensures) at (c .before .before .space-refusal .ensures .0) in
-    λ region.
-    c .answered .ensures
-    ∙ reply-refused _ _ (c .before .before .space-refusal .result)
-    (region-refusal (hubOf (a .hub .now)) region (a .id) (Act.msixRead (a .offset) (a .width)) (a .offset) (a .width) refl refl ∙ sym n) (c .before .if1 .taken)
+    answers-refused (a .hub .now) _ _ _
+    (region-checked (a .hub .now) (a .id) (Act.msixRead (a .offset) (a .width)) (a .offset) (a .width) _ _ refl refl
+    (c .before .before .before .nothing-lent .ensures) (c .before .before .space-refusal .ensures .0))
+    (c .before .if1 .taken) (c .answered .ensures)
 
 peer-requires : tie.Need-peer-requires
 peer-requires c κs =
@@ -45,12 +44,11 @@ returns-2 : tie.Need-returns-2
 unfolding lentTo accessOf effect msixRead
 returns-2 c =
     let a = c .before .before .before .before .before .before .before .args in
-    let n = rw (c .before .before .before .before .before .nothing-lent .ensures) at (c .before .before .before .before .space-refusal .ensures .0) in
     let off = rw (c .before .memory-on .ensures, c .before .before .peer .ensures) at (not-true (c .before .memory-on .result) (c .if2 .taken)) in
-    λ region.
-    reply-accepted _ _ 0xFFFFFFFF
-    (region-refusal (hubOf (a .hub .now)) region (a .id) (Act.msixRead (a .offset) (a .width)) (a .offset) (a .width) refl refl ∙ sym n ∙ c .before .before .before .if1 .left)
-    (rw off)
+    answers-accepted (a .hub .now) _ _ 0xFFFFFFFF
+    (region-checked (a .hub .now) (a .id) (Act.msixRead (a .offset) (a .width)) (a .offset) (a .width) _ _ refl refl
+    (c .before .before .before .before .before .nothing-lent .ensures) (c .before .before .before .before .space-refusal .ensures .0))
+    (c .before .before .before .if1 .left) (λ region. rw off)
 
 settings-requires : tie.Need-settings-requires
 settings-requires c κs = c .before .before .before .before .space-refusal .ensures .1 .0 (c .before .before .before .if1 .left) .room
@@ -62,13 +60,12 @@ returns-3 : tie.Need-returns-3
 unfolding lentTo accessOf effect msixRead tableWord
 returns-3 c =
     let a = c .before .before .before .before .before .before .before .before .before .before .args in
-    let n = rw (c .before .before .before .before .before .before .before .before .nothing-lent .ensures) at (c .before .before .before .before .before .before .before .space-refusal .ensures .0) in
     let on = rw (c .before .before .before .before .memory-on .ensures, c .before .before .before .before .before .peer .ensures) at (not-false (c .before .before .before .before .memory-on .result) (c .before .before .before .if2 .left)) in
     let out = rw (c .before .in-table .ensures, c .before .before .settings .ensures) at (not-true (c .before .in-table .result) (c .if3 .taken)) in
-    λ region.
-    reply-accepted _ _ 0
-    (region-refusal (hubOf (a .hub .now)) region (a .id) (Act.msixRead (a .offset) (a .width)) (a .offset) (a .width) refl refl ∙ sym n ∙ c .before .before .before .before .before .before .if1 .left)
-    (rw (on, out))
+    answers-accepted (a .hub .now) _ _ 0
+    (region-checked (a .hub .now) (a .id) (Act.msixRead (a .offset) (a .width)) (a .offset) (a .width) _ _ refl refl
+    (c .before .before .before .before .before .before .before .before .nothing-lent .ensures) (c .before .before .before .before .before .before .before .space-refusal .ensures .0))
+    (c .before .before .before .before .before .before .if1 .left) (λ region. rw (on, out))
 
 entry-requires : tie.Need-entry-requires
 unfolding inTable
@@ -86,13 +83,12 @@ returns-4 : tie.Need-returns-4
 unfolding lentTo accessOf effect msixRead tableWord
 returns-4 c =
     let a = c .before .before .before .before .before .before .before .before .before .before .before .before .args in
-    let n = rw (c .before .before .before .before .before .before .before .before .before .before .nothing-lent .ensures) at (c .before .before .before .before .before .before .before .before .before .space-refusal .ensures .0) in
     let on = rw (c .before .before .before .before .before .before .memory-on .ensures, c .before .before .before .before .before .before .before .peer .ensures) at (not-false (c .before .before .before .before .before .before .memory-on .result) (c .before .before .before .before .before .if2 .left)) in
     let inside = rw (c .before .before .before .in-table .ensures, c .before .before .before .before .settings .ensures) at (not-false (c .before .before .before .in-table .result) (c .before .before .if3 .left)) in
-    λ region.
-    reply-accepted _ _ (c .word .result)
-    (region-refusal (hubOf (a .hub .now)) region (a .id) (Act.msixRead (a .offset) (a .width)) (a .offset) (a .width) refl refl ∙ sym n ∙ c .before .before .before .before .before .before .before .before .if1 .left)
-    (rw (on, inside, c .word .ensures, c .before .entry .ensures))
+    answers-accepted (a .hub .now) _ _ (c .word .result)
+    (region-checked (a .hub .now) (a .id) (Act.msixRead (a .offset) (a .width)) (a .offset) (a .width) _ _ refl refl
+    (c .before .before .before .before .before .before .before .before .before .before .nothing-lent .ensures) (c .before .before .before .before .before .before .before .before .before .space-refusal .ensures .0))
+    (c .before .before .before .before .before .before .before .before .if1 .left) (λ region. rw (on, inside, c .word .ensures, c .before .entry .ensures))
 
 pub msix-read-spec : {M : Type 1} → statement M
 msix-read-spec =

@@ -1,5 +1,5 @@
 -- `hub::writes::configuration_write` meets its contract: a refusal is the table's, and an accepted write is its effect.
-use mathlib.Core.Path.{refl, sym, _∙_}
+use mathlib.Core.Path.{refl}
 use native.Mathlib.Omega.{arith}
 use borrow.Author.Needs.{needs}
 use Rattle.device.specs.Call.{Act}
@@ -8,7 +8,7 @@ use Rattle.device.specs.Refusal.{lentTo, accessOf}
 use Rattle.device.specs.Step.{run, runAll}
 use Rattle.device.proofs.ConfigurationLaws.{in-one-word}
 use Rattle.words.specs.Layout.{hubOf}
-use Rattle.hub.proofs.RefusalLaws.{configuration-refusal, any-width}
+use Rattle.hub.proofs.RefusalLaws.{configuration-checked, any-width}
 use Rattle.hub.proofs.ReplyLaws.{changes-refused, changes-accepted}
 use Rattle.hub.proofs.writes.configuration_write.Statement.{statement}
 use Rattle.hub.proofs.writes.configuration_write.Tie as tie
@@ -29,10 +29,9 @@ returns : tie.Need-returns
 unfolding lentTo accessOf
 returns c =
     let a = c .before .before .before .before .before .before .args in
-    let n = rw (c .before .before .before .before .nothing-lent .ensures) at (c .before .before .space-refusal .ensures .0) in
-    changes-refused (a .hub .now) _ (c .before .before .space-refusal .result) _
-    (λ region.
-    configuration-refusal (hubOf (a .hub .now)) region (a .id) (Act.configurationWrite (a .offset) (a .width) (a .value)) (a .offset) (a .width) refl refl ∙ sym n)
+    changes-refused (a .hub .now) _ _ _
+    (configuration-checked (a .hub .now) (a .id) (Act.configurationWrite (a .offset) (a .width) (a .value)) (a .offset) (a .width) _ _ refl refl
+    (c .before .before .before .before .nothing-lent .ensures) (c .before .before .space-refusal .ensures .0))
     (c .before .if1 .taken) (c .answered .ensures)
 
 settings-requires : tie.Need-settings-requires
@@ -63,11 +62,10 @@ returns-2 : tie.Need-returns-2
 unfolding lentTo accessOf effect runAll run
 returns-2 c =
     let a = c .before .before .before .before .before .before .before .before .before .before .before .before .before .before .before .args in
-    let n = rw (c .before .before .before .before .before .before .before .before .before .before .before .before .before .nothing-lent .ensures) at (c .before .before .before .before .before .before .before .before .before .before .before .space-refusal .ensures .0) in
-    changes-accepted (a .hub .now) _ _ _
-    (λ region.
-    configuration-refusal (hubOf (a .hub .now)) region (a .id) (Act.configurationWrite (a .offset) (a .width) (a .value)) (a .offset) (a .width) refl refl ∙ sym n ∙ c .before .before .before .before .before .before .before .before .before .before .if1 .left)
-    (c .answered2 .ensures) (λ region. refl)
+    changes-accepted (a .hub .now) _ _ _ _
+    (configuration-checked (a .hub .now) (a .id) (Act.configurationWrite (a .offset) (a .width) (a .value)) (a .offset) (a .width) _ _ refl refl
+    (c .before .before .before .before .before .before .before .before .before .before .before .before .before .nothing-lent .ensures) (c .before .before .before .before .before .before .before .before .before .before .before .space-refusal .ensures .0))
+    (c .before .before .before .before .before .before .before .before .before .before .if1 .left) (c .answered2 .ensures) (λ region. refl)
     (λ region. rw (c .before .before .before .put-peer .ensures, c .before .before .before .before .write .ensures, c .before .before .before .before .before .before .before .before .settings .ensures, c .before .before .before .before .before .before .peer .ensures))
 
 pub configuration-write-spec : {M : Type 1} → statement M

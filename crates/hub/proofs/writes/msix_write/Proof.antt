@@ -1,6 +1,6 @@
 -- `hub::writes::msix_write` meets its contract: a refusal is the table's, and an accepted write is its effect, in three cases.
 use Prim.Native.Nat.{_/_, _<_}
-use mathlib.Core.Path.{refl, sym, _∙_}
+use mathlib.Core.Path.{refl}
 use native.Mathlib.Omega.{arith}
 use borrow.Author.Needs.{needs}
 use borrow.Author.Tests.{eqb-true, not-true, not-false, ltb-true}
@@ -11,7 +11,7 @@ use Rattle.device.specs.Refusal.{lentTo, accessOf}
 use Rattle.device.specs.Step.{run, runAll}
 use Rattle.words.proofs.SlotLaws.{slot-kept}
 use Rattle.words.specs.Layout.{hubOf}
-use Rattle.hub.proofs.RefusalLaws.{region-refusal}
+use Rattle.hub.proofs.RefusalLaws.{region-checked}
 use Rattle.hub.proofs.ReplyLaws.{changes-refused, changes-accepted}
 use Rattle.hub.proofs.writes.msix_write.Statement.{statement}
 use Rattle.hub.proofs.writes.msix_write.Tie as tie
@@ -32,10 +32,9 @@ returns : tie.Need-returns
 unfolding lentTo accessOf
 returns c =
     let a = c .before .before .before .before .before .before .args in
-    let n = rw (c .before .before .before .before .nothing-lent .ensures) at (c .before .before .space-refusal .ensures .0) in
-    changes-refused (a .hub .now) _ (c .before .before .space-refusal .result) _
-    (λ region.
-    region-refusal (hubOf (a .hub .now)) region (a .id) (Act.msixWrite (a .offset) (a .width) (a .value)) (a .offset) (a .width) refl refl ∙ sym n)
+    changes-refused (a .hub .now) _ _ _
+    (region-checked (a .hub .now) (a .id) (Act.msixWrite (a .offset) (a .width) (a .value)) (a .offset) (a .width) _ _ refl refl
+    (c .before .before .before .before .nothing-lent .ensures) (c .before .before .space-refusal .ensures .0))
     (c .before .if1 .taken) (c .answered .ensures)
 
 peer-requires : tie.Need-peer-requires
@@ -56,12 +55,12 @@ returns-2 : tie.Need-returns-2
 unfolding lentTo accessOf effect runAll run
 returns-2 c =
     let a = c .before .before .before .before .before .before .before .before .before .before .args in
-    let n = rw (c .before .before .before .before .before .before .before .before .nothing-lent .ensures) at (c .before .before .before .before .before .before .space-refusal .ensures .0) in
     let off = rw (c .before .before .memory-on .ensures, c .before .before .before .peer .ensures) at (not-true (c .before .before .memory-on .result) (c .before .if2 .taken)) in
-    changes-accepted (a .hub .now) _ _ _
-    (λ region.
-    region-refusal (hubOf (a .hub .now)) region (a .id) (Act.msixWrite (a .offset) (a .width) (a .value)) (a .offset) (a .width) refl refl ∙ sym n ∙ c .before .before .before .before .before .if1 .left)
-    (c .answered2 .ensures) (λ region. refl) (λ region. rw off)
+    changes-accepted (a .hub .now) _ _ _ _
+    (region-checked (a .hub .now) (a .id) (Act.msixWrite (a .offset) (a .width) (a .value)) (a .offset) (a .width) _ _ refl refl
+    (c .before .before .before .before .before .before .before .before .nothing-lent .ensures) (c .before .before .before .before .before .before .space-refusal .ensures .0))
+    (c .before .before .before .before .before .if1 .left) (c .answered2 .ensures) (λ region. refl)
+    (λ region. rw off)
 
 settings-requires : tie.Need-settings-requires
 settings-requires c κs = c .before .before .before .before .before .before .space-refusal .ensures .1 .0 (c .before .before .before .before .before .if1 .left) .room
@@ -79,13 +78,13 @@ returns-3 : tie.Need-returns-3
 unfolding lentTo accessOf effect runAll run msixWritten
 returns-3 c =
     let a = c .before .before .before .before .before .before .before .before .before .before .before .before .before .before .args in
-    let n = rw (c .before .before .before .before .before .before .before .before .before .before .before .before .nothing-lent .ensures) at (c .before .before .before .before .before .before .before .before .before .before .space-refusal .ensures .0) in
     let on = rw (c .before .before .before .before .before .before .memory-on .ensures, c .before .before .before .before .before .before .before .peer .ensures) at (not-false (c .before .before .before .before .before .before .memory-on .result) (c .before .before .before .before .before .if2 .left)) in
     let out = rw (c .before .before .in-table .ensures, c .before .before .before .settings .ensures) at (not-true (c .before .before .in-table .result) (c .before .if3 .taken)) in
-    changes-accepted (a .hub .now) _ _ _
-    (λ region.
-    region-refusal (hubOf (a .hub .now)) region (a .id) (Act.msixWrite (a .offset) (a .width) (a .value)) (a .offset) (a .width) refl refl ∙ sym n ∙ c .before .before .before .before .before .before .before .before .before .if1 .left)
-    (c .answered3 .ensures) (λ region. refl) (λ region. rw (on, out) (slot-kept (hubOf (a .hub .now)) (a .id)))
+    changes-accepted (a .hub .now) _ _ _ _
+    (region-checked (a .hub .now) (a .id) (Act.msixWrite (a .offset) (a .width) (a .value)) (a .offset) (a .width) _ _ refl refl
+    (c .before .before .before .before .before .before .before .before .before .before .before .before .nothing-lent .ensures) (c .before .before .before .before .before .before .before .before .before .before .space-refusal .ensures .0))
+    (c .before .before .before .before .before .before .before .before .before .if1 .left) (c .answered3 .ensures) (λ region. refl)
+    (λ region. rw (on, out) (slot-kept (hubOf (a .hub .now)) (a .id)))
 
 entry-requires : tie.Need-entry-requires
 unfolding inTable
@@ -118,13 +117,12 @@ returns-4 : tie.Need-returns-4
 unfolding lentTo accessOf effect runAll run msixWritten
 returns-4 c =
     let a = c .before .before .before .before .before .before .before .before .before .before .before .before .before .before .before .before .before .before .before .before .before .args in
-    let n = rw (c .before .before .before .before .before .before .before .before .before .before .before .before .before .before .before .before .before .before .before .nothing-lent .ensures) at (c .before .before .before .before .before .before .before .before .before .before .before .before .before .before .before .before .before .space-refusal .ensures .0) in
     let on = rw (c .before .before .before .before .before .before .before .before .before .before .before .before .before .memory-on .ensures, c .before .before .before .before .before .before .before .before .before .before .before .before .before .before .peer .ensures) at (not-false (c .before .before .before .before .before .before .before .before .before .before .before .before .before .memory-on .result) (c .before .before .before .before .before .before .before .before .before .before .before .before .if2 .left)) in
     let inside = rw (c .before .before .before .before .before .before .before .before .before .in-table .ensures, c .before .before .before .before .before .before .before .before .before .before .settings .ensures) at (not-false (c .before .before .before .before .before .before .before .before .before .in-table .result) (c .before .before .before .before .before .before .before .before .if3 .left)) in
-    changes-accepted (a .hub .now) _ _ _
-    (λ region.
-    region-refusal (hubOf (a .hub .now)) region (a .id) (Act.msixWrite (a .offset) (a .width) (a .value)) (a .offset) (a .width) refl refl ∙ sym n ∙ c .before .before .before .before .before .before .before .before .before .before .before .before .before .before .before .before .if1 .left)
-    (c .answered4 .ensures) (λ region. refl)
+    changes-accepted (a .hub .now) _ _ _ _
+    (region-checked (a .hub .now) (a .id) (Act.msixWrite (a .offset) (a .width) (a .value)) (a .offset) (a .width) _ _ refl refl
+    (c .before .before .before .before .before .before .before .before .before .before .before .before .before .before .before .before .before .before .before .nothing-lent .ensures) (c .before .before .before .before .before .before .before .before .before .before .before .before .before .before .before .before .before .space-refusal .ensures .0))
+    (c .before .before .before .before .before .before .before .before .before .before .before .before .before .before .before .before .if1 .left) (c .answered4 .ensures) (λ region. refl)
     (λ region. rw (on, inside, c .before .before .before .put-entry .ensures, c .before .before .before .before .with-word .ensures, c .before .before .before .before .before .before .entry .ensures))
 
 pub msix-write-spec : {M : Type 1} → statement M
