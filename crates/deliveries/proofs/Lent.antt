@@ -58,12 +58,16 @@ lent κ q x r = record { lifetime = κ; share = q; block = x .ptr .0; offset = x
 
 module _ {M : Type 1} {𝓤 : URA M} {H : Heap 𝓤} {A : Atoms 𝓤} {K : Type 0} {W : Given 𝓤 H A} {Γ : List (Item 𝓤)} {G : Goal 𝓤 H} where
   -- a call has returned v: the tokens are back, the result and what the call leaves of its parameters are as it ensures
-  pub returned : K → Soaks G → (R : RattleType) (v : Val) (T : Ended) (κs : Lfts (T .signature .lifetimes)) (a : Args (T .signature) κs) (tokens : Item 𝓤) (P : R .Denot → Lasts T κs a → Type 0) {post : SProp 𝓤}
-      → ent 𝓤 post (mean 𝓤 H A (later (some (λ (r : R .Denot). (tokens ⊛ ‵ (R .own r (v ∷ []))) ⊛ some (λ (zs : Lasts T κs a). ‵ (lasts T κs a zs) ⊛ raw (fact 𝓤 (P r zs)))))))
+  pub returned : K → Soaks G → (R : RattleType) (v : Val) (T : Ended) (κs : Lfts (T .signature .lifetimes))
+      (a : Args (T .signature) κs) (tokens : Item 𝓤) (P : R .Denot → Lasts T κs a → Type 0) {post : SProp 𝓤}
+      → ent 𝓤 post (mean 𝓤 H A (later
+      (some (λ (r : R .Denot). (tokens ⊛ ‵ (R .own r (v ∷ []))) ⊛ some (λ (zs : Lasts T κs a). ‵ (lasts T κs a zs) ⊛ raw
+      (fact 𝓤 (P r zs)))))))
       → ((r : R .Denot) (zs : Lasts T κs a) → P r zs → Is R r (v ∷ []) → Seq K W (‵ (lasts T κs a zs) ∷ tokens ∷ Γ) G)
       → Seq K W (raw post ∷ Γ) G
   returned t z R v T κs a tokens P said next =
-      use1 W (later (some (λ (r : R .Denot). (tokens ⊛ ‵ (R .own r (v ∷ []))) ⊛ some (λ (zs : Lasts T κs a). ‵ (lasts T κs a zs) ⊛ raw (fact 𝓤 (P r zs)))))) said $ await t z $ pick t (λ r.
+      use1 W (later (some (λ (r : R .Denot). (tokens ⊛ ‵ (R .own r (v ∷ []))) ⊛ some
+      (λ (zs : Lasts T κs a). ‵ (lasts T κs a zs) ⊛ raw (fact 𝓤 (P r zs)))))) said $ await t z $ pick t (λ r.
       split t $ move t (1 ∷ []) $ pick t (λ zs. split t $ move t (1 ∷ []) $ heard t (P r zs) (λ p. move t (1 ∷ []) $ split t $ move t (1 ∷ []) $
       facts t R (Is R) (shows 𝓤 H A R) r (v ∷ []) (λ is. move t (1 ∷ 0 ∷ []) $ next r zs p is))))
 

@@ -38,7 +38,17 @@ case gives says = record { gives = gives; says = says }
 -- a hub of n peers with v vectors, sections of s, r and o bytes and protocol 0001h, right after set-up
 abbrev setUp : ℕ → ℕ → ℕ → ℕ → ℕ → World
 setUp n v s r o =
-    let numbers : Settings = record { peers = n; vectors = v; table = s; common = r; output = o; base = 0x100000000; protocol = 0x0001; vendor = 0; subsystem = 0 } in
+    let numbers : Settings = record {
+      peers = n;
+      vectors = v;
+      table = s;
+      common = r;
+      output = o;
+      base = 0x100000000;
+      protocol = 0x0001;
+      vendor = 0;
+      subsystem = 0;
+    } in
     world (freshHub numbers) (replicate (total numbers) 0)
 
 -- a call of a peer, and the world after it
@@ -103,7 +113,11 @@ Right (c ∷ cs) = (c .gives ≡ c .says) × Right cs
 
 -- each case by computation
 pub bench : Right cases
-unfolding cases bytes number setByte first every below Configuration.configurationRead fields fieldByte configurationByte masks maskIn maskAt maskOf withByte writtenByte configurationWritten effect lentTo accessOf wrongRegion shortTable missing present wrongWidth misaligned outside forbidden isConnected refusal Registers.registerRead registerAt memoryOn registerValue outputs sections sectionIn sectionOf somewhere mayStore total accepted freshHub maxPeers maxVectors peerFixed peerReset entryFixed entryReset peerSound entrySound slotSound sound run runAll stepBy step zeroSlot resetSlot
+unfolding cases bytes number setByte first every below Configuration.configurationRead fields fieldByte configurationByte masks
+    maskIn maskAt maskOf withByte writtenByte configurationWritten effect lentTo accessOf wrongRegion shortTable missing present
+    wrongWidth misaligned outside forbidden isConnected refusal Registers.registerRead registerAt memoryOn registerValue outputs
+    sections sectionIn sectionOf somewhere mayStore total accepted freshHub maxPeers maxVectors peerFixed peerReset entryFixed
+    entryReset peerSound entrySound slotSound sound run runAll stepBy step zeroSlot resetSlot
 bench =
     (refl, (refl, (refl, (refl, (refl, (refl, (refl, (refl, (refl, (refl, (refl, (refl, (refl, (refl, tt))))))))))))))
 
@@ -150,5 +164,10 @@ list first second =
     ∷ []
 
 pub whole-list : Right (list (does four 1 five) (does (after four 1 five) 1 five))
-unfolding bytes number setByte first every below fields fieldByte configurationByte masks maskIn maskAt maskOf withByte writtenByte configurationWritten changes announces registerStored effect History.after inTable withWord msixWritten lentTo accessOf wrongRegion shortTable missing present wrongWidth misaligned outside forbidden isConnected refusal Registers.registerRead registerAt memoryOn registerValue gateOf opens target deliveryOf afterDelivery ringAt ring ringFrom Ring.ringOthers total accepted freshHub maxPeers maxVectors peerFixed peerReset entryFixed entryReset peerSound entrySound slotSound sound run runAll stepBy step zeroSlot resetSlot
+unfolding bytes number setByte first every below fields fieldByte configurationByte masks maskIn maskAt maskOf withByte
+    writtenByte configurationWritten changes announces registerStored effect History.after inTable withWord msixWritten lentTo
+    accessOf wrongRegion shortTable missing present wrongWidth misaligned outside forbidden isConnected refusal
+    Registers.registerRead registerAt memoryOn registerValue gateOf opens target deliveryOf afterDelivery ringAt ring ringFrom
+    Ring.ringOthers total accepted freshHub maxPeers maxVectors peerFixed peerReset entryFixed entryReset peerSound entrySound
+    slotSound sound run runAll stepBy step zeroSlot resetSlot
 whole-list = (refl, (refl, (refl, (refl, tt))))

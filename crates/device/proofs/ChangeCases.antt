@@ -76,6 +76,9 @@ cases =
     ∷ []
 
 pub changed-cases : Right cases
-unfolding cases bytes first every below masks maskIn maskAt maskOf changes announces registerStored effect lentTo accessOf wrongRegion shortTable missing present wrongWidth misaligned outside forbidden isConnected refusal registerAt memoryOn gateOf opens target deliveryOf afterDelivery ringAt ring ringFrom Ring.ringOthers total accepted maxPeers maxVectors peerFixed peerReset entryFixed entryReset peerSound entrySound slotSound sound run runAll stepBy step zeroSlot resetSlot
+unfolding cases bytes first every below masks maskIn maskAt maskOf changes announces registerStored effect lentTo accessOf
+    wrongRegion shortTable missing present wrongWidth misaligned outside forbidden isConnected refusal registerAt memoryOn
+    gateOf opens target deliveryOf afterDelivery ringAt ring ringFrom Ring.ringOthers total accepted maxPeers maxVectors
+    peerFixed peerReset entryFixed entryReset peerSound entrySound slotSound sound run runAll stepBy step zeroSlot resetSlot
 changed-cases =
     (refl, (refl, (refl, (refl, (refl, (refl, (refl, (refl, (refl, (refl, (refl, (refl, (refl, tt)))))))))))))

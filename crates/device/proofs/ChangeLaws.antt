@@ -25,7 +25,8 @@ stored w who new = world (withSlot (w .hub) who new) (sets (w .region) (4 * who)
 -- what such a call leaves and delivers
 pub record Announced (w : World) (who : ℕ) (new : Slot) (r : Ran) : Type 0 where
   pub unchanged : slotAt (w .hub) who .peer .state ≡ new .peer .state → r ≡ ran (stored w who new) []
-  pub changed : (slotAt (w .hub) who .peer .state ≡ new .peer .state → ⊥) → r ≡ ranRings (stored w who new .region) (Ring.ringOthers who (stored w who new .hub))
+  pub changed : (slotAt (w .hub) who .peer .state ≡ new .peer .state → ⊥) → r ≡ ranRings (stored w who new .region)
+      (Ring.ringOthers who (stored w who new .hub))
 
 announced : (w : World) (who : ℕ) (new : Slot) → Announced w who new (runAll who w (announces who (slotAt (w .hub) who) new))
 unfolding announces changes runAll run
@@ -42,7 +43,8 @@ ranBy o = ran (o .world) (o .deliveries)
 
 module _ (w : World) (who records : ℕ) where
   pub state-store-announced : (value : ℕ) → refusal w (call who (registerWrite records 0x10 4 value)) ≡ 0 → memoryOn (slotAt (w .hub) who .peer) ≡ true
-      → Announced w who (withPeer (slotAt (w .hub) who) (withState (slotAt (w .hub) who .peer) (stateValue value))) (ranBy (step w (call who (registerWrite records 0x10 4 value))))
+      → Announced w who (withPeer (slotAt (w .hub) who) (withState (slotAt (w .hub) who .peer) (stateValue value)))
+      (ranBy (step w (call who (registerWrite records 0x10 4 value))))
   unfolding effect registerAt registerStored
   state-store-announced value e on =
       rw (ap (λ (o : Outcome). ranBy o) (accepted-effect w (call who (registerWrite records 0x10 4 value)) e), on) (announced w who _)

@@ -50,8 +50,10 @@ pub read-by-bytes : (s : Settings) (p : Peer) (at w : ℕ) → configurationRead
 unfolding configurationRead number tabulate
 read-by-bytes s p at zero = refl
 read-by-bytes s p at (suc w) =
-    let here : configurationByte s p at ≡ configurationRead s p (at + 0) 1 = sym (read-one s p (at + 0) ∙ ap (λ (i : ℕ). configurationByte s p i) (add-zero at)) in
-    let later : (j : ℕ) → configurationRead s p (suc at + j) 1 ≡ configurationRead s p (at + suc j) 1 = λ j. ap (λ (i : ℕ). configurationRead s p i 1) (omega arith) in
+    let here : configurationByte s p at ≡ configurationRead s p (at + 0) 1 =
+    sym (read-one s p (at + 0) ∙ ap (λ (i : ℕ). configurationByte s p i) (add-zero at)) in
+    let later : (j : ℕ) → configurationRead s p (suc at + j) 1 ≡ configurationRead s p (at + suc j) 1 =
+    λ j. ap (λ (i : ℕ). configurationRead s p i 1) (omega arith) in
     let rest : configurationRead s p (suc at) w ≡ number (tabulate w (λ j. configurationRead s p (at + suc j) 1)) =
     read-by-bytes s p (suc at) w ∙ ap (λ (f : ℕ → ℕ). number (tabulate w f)) (fun-ext later) in
     ap₂ (λ (b r : ℕ). b + 256 * r) here rest ∙ sym (number-tabulate w (λ j. configurationRead s p (at + j) 1))
@@ -208,7 +210,8 @@ Reads s p at b o =
 kept-reads : (s : Settings) (p : Peer) (at b k : ℕ)
     → ((c : ℕ) → c < 256 → configurationByte s (withByte p at c) k ≡ cond (eqb k at) c (configurationByte s p k)) → Reads s p at b k
 unfolding writtenByte
-kept-reads s p at b k h = h (merge (maskAt s at) (configurationByte s p at) b) (merge-small (maskAt s at) (configurationByte s p at) b (mask-small s at)) ∙ go (eqb k at) refl
+kept-reads s p at b k h = h (merge (maskAt s at) (configurationByte s p at) b)
+    (merge-small (maskAt s at) (configurationByte s p at) b (mask-small s at)) ∙ go (eqb k at) refl
   where
     go : (t : Bool) → eqb k at ≡ t
         → cond t (merge (maskAt s at) (configurationByte s p at) b) (configurationByte s p k)

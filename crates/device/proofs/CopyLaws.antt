@@ -118,7 +118,11 @@ module _ (s : Settings) (q : Peer) where
       (record { command = refl; bar0 = refl; bar1 = refl; privileged = refl; message = refl; interrupt = f .interrupt }) in
       let b04 : byte 0 (r .command) ≡ byte 0 (q .command) = copied-reads p 0x04 (omega arith) ∙ same-byte 0 (maskOf s 0x04 2) (q .command) (f .command) in
       let b05 : byte 1 (r .command) ≡ byte 1 (q .command) = copied-reads p 0x05 (omega arith) ∙ same-byte 1 (maskOf s 0x04 2) (q .command) (f .command) in
-      let command : r .command ≡ q .command = omega (arith, bounded (maskOf s 0x04 2) (r .command) (g .command), bounded (maskOf s 0x04 2) (q .command) (f .command)) in
+      let command : r .command ≡ q .command = omega (
+        arith,
+        bounded (maskOf s 0x04 2) (r .command) (g .command),
+        bounded (maskOf s 0x04 2) (q .command) (f .command),
+      ) in
       let b10 : byte 0 (r .bar0) ≡ byte 0 (q .bar0) = copied-reads p 0x10 (omega arith) ∙ same-byte 0 (maskOf s 0x10 4) (q .bar0) (f .bar0) in
       let b11 : byte 1 (r .bar0) ≡ byte 1 (q .bar0) = copied-reads p 0x11 (omega arith) ∙ same-byte 1 (maskOf s 0x10 4) (q .bar0) (f .bar0) in
       let b12 : byte 2 (r .bar0) ≡ byte 2 (q .bar0) = copied-reads p 0x12 (omega arith) ∙ same-byte 2 (maskOf s 0x10 4) (q .bar0) (f .bar0) in
@@ -129,10 +133,19 @@ module _ (s : Settings) (q : Peer) where
       let b16 : byte 2 (r .bar1) ≡ byte 2 (q .bar1) = copied-reads p 0x16 (omega arith) ∙ same-byte 2 (maskOf s 0x14 4) (q .bar1) (f .bar1) in
       let b17 : byte 3 (r .bar1) ≡ byte 3 (q .bar1) = copied-reads p 0x17 (omega arith) ∙ same-byte 3 (maskOf s 0x14 4) (q .bar1) (f .bar1) in
       let bar1 : r .bar1 ≡ q .bar1 = word-same (maskOf s 0x14 4) (r .bar1) (q .bar1) (omega arith) (g .bar1) (f .bar1) b14 b15 b16 b17 in
-      let b43 : byte 0 (r .privileged) ≡ byte 0 (q .privileged) = copied-reads p 0x43 (omega arith) ∙ same-byte 0 (maskOf s 0x43 1) (q .privileged) (f .privileged) in
-      let privileged : r .privileged ≡ q .privileged = omega (arith, bounded (maskOf s 0x43 1) (r .privileged) (g .privileged), bounded (maskOf s 0x43 1) (q .privileged) (f .privileged)) in
+      let b43 : byte 0 (r .privileged) ≡ byte 0 (q .privileged) = copied-reads p 0x43 (omega arith)
+      ∙ same-byte 0 (maskOf s 0x43 1) (q .privileged) (f .privileged) in
+      let privileged : r .privileged ≡ q .privileged = omega (
+        arith,
+        bounded (maskOf s 0x43 1) (r .privileged) (g .privileged),
+        bounded (maskOf s 0x43 1) (q .privileged) (f .privileged),
+      ) in
       let b63 : byte 0 (r .message) ≡ byte 0 (q .message) = copied-reads p 0x63 (omega arith) ∙ same-byte 0 (maskOf s 0x63 1) (q .message) (f .message) in
-      let message : r .message ≡ q .message = omega (arith, bounded (maskOf s 0x63 1) (r .message) (g .message), bounded (maskOf s 0x63 1) (q .message) (f .message)) in
+      let message : r .message ≡ q .message = omega (
+        arith,
+        bounded (maskOf s 0x63 1) (r .message) (g .message),
+        bounded (maskOf s 0x63 1) (q .message) (f .message),
+      ) in
       let others : beside r ≡ beside p = written-beside p 0 256 (configurationRead s q 0 256) in
       λ i. record {
         connected = (ap (λ (x : ℕ × ℕ × ℕ). x .0) others ∙ sym c) i;
@@ -207,7 +220,8 @@ module _ {A : Type 0} (R : List A → Type 0) (d : A) (n : ℕ) (f g : ℕ → A
       subst R
       (sym
       (set-tabulate n (upTo k) (upTo (suc k)) k (g k) h (rw (lt-ltb k (suc k) (omega arith)))
-      (λ j l e. rw (alike (ltb j (suc k)) (ltb j k) (λ t. lt-ltb j k (omega (arith, ltb-true j (suc k) t))) (λ t. lt-ltb j (suc k) (omega (arith, ltb-true j k t)))))))
+      (λ j l e. rw (alike (ltb j (suc k)) (ltb j k) (λ t. lt-ltb j k (omega (arith, ltb-true j (suc k) t)))
+      (λ t. lt-ltb j (suc k) (omega (arith, ltb-true j k t)))))))
       (one k (tabulate n (upTo k)) h (length-tabulate n (upTo k)) (getD-tabulate n (upTo k) k d h ∙ rw (le-ltb k k (omega arith))) (replaced k (omega arith) r))
 
   pub sweep : R (tabulate n f) → R (tabulate n g)

@@ -61,7 +61,8 @@ unfolding maskOf number bytes
 bytes-only s at zero x e = refl
 bytes-only s at (suc n) x e =
     let both = only-split (maskAt s at) (maskOf s (suc at) n) x (mask-small s at) e in
-    only-join (maskAt s at) (maskOf s (suc at) n) (x % 256) (number (bytes n (x / 256))) (mask-small s at) (omega arith) (both .0) (bytes-only s (suc at) n (x / 256) (both .1))
+    only-join (maskAt s at) (maskOf s (suc at) n) (x % 256) (number (bytes n (x / 256))) (mask-small s at) (omega arith)
+    (both .0) (bytes-only s (suc at) n (x / 256) (both .1))
 
 -- it still does with one byte replaced by one that keeps to its mask
 set-only : (s : Settings) (at n x k b : ℕ) → b < 256 → only (maskOf s at n) x ≡ true → only (maskAt s (at + k)) b ≡ true
@@ -70,7 +71,8 @@ unfolding maskOf number bytes
 set-only s at zero x k b h e f = refl
 set-only s at (suc n) x zero b h e f =
     let both = only-split (maskAt s at) (maskOf s (suc at) n) x (mask-small s at) e in
-    only-join (maskAt s at) (maskOf s (suc at) n) b (number (bytes n (x / 256))) (mask-small s at) h (rw add-zero at f) (bytes-only s (suc at) n (x / 256) (both .1))
+    only-join (maskAt s at) (maskOf s (suc at) n) b (number (bytes n (x / 256))) (mask-small s at) h (rw add-zero at f)
+    (bytes-only s (suc at) n (x / 256) (both .1))
 set-only s at (suc n) x (suc k) b h e f =
     let next : at + suc k ≡ suc at + k = omega arith in
     let both = only-split (maskAt s at) (maskOf s (suc at) n) x (mask-small s at) e in

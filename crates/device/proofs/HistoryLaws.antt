@@ -159,7 +159,8 @@ effect-memory s who slot region (disconnect n) on e = announces-leaves (Tracks o
 effect-memory s who slot region (reset n) on e = announces-leaves (Tracks false) who slot slot _ (λ c. refl)
 effect-memory s who slot region (configurationRead at w) on e = e
 effect-memory s who slot region (configurationWrite at w x) on e =
-    λ c. written-memory s (slot .peer) at w x ∙ ap (λ (t : Bool). cond (within at w 0x04) (bit 1 (byte (0x04 - at) x)) t) (e (sym (written-connected s (slot .peer) at w x) ∙ c))
+    λ c. written-memory s (slot .peer) at w x ∙ ap (λ (t : Bool). cond (within at w 0x04) (bit 1 (byte (0x04 - at) x)) t)
+    (e (sym (written-connected s (slot .peer) at w x) ∙ c))
 effect-memory s who slot region (registerRead at w) on e = e
 effect-memory s who slot region (registerWrite n at w x) on e = go (memoryOn (slot .peer))
   where
@@ -256,7 +257,8 @@ module _ (s : Settings) (w : World) (c : Call) (a : accepted s ≡ true) (f : Fi
         fixed = ap (λ (x : World). frame x) (taken-world w c e) ∙ runAll-frame (c .who) w (effectIn w c .operations) ∙ f .fixed;
         slots =
             slots-keep (Sound s) (λ i. delivery-sound s) e (λ i h d. f .slots i h)
-            (subst (λ (x : Settings). Leaves (Sound s (c .who)) (slotAt (w .hub) (c .who)) (effect x (c .who) (slotAt (w .hub) (c .who)) (w .region) (c .act) .operations)) (sym same)
+            (subst (λ (x : Settings). Leaves (Sound s (c .who)) (slotAt (w .hub) (c .who))
+            (effect x (c .who) (slotAt (w .hub) (c .who)) (w .region) (c .act) .operations)) (sym same)
             (effect-sound s (c .who) (slotAt (w .hub) (c .who)) (w .region) (c .act) (taken w c e .there)
             (f .slots (c .who) (small e))));
       }

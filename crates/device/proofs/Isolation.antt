@@ -28,7 +28,8 @@ module _ (s : Settings) (a : accepted s ≡ true) (b : ℕ) (w w′ : World) (f 
   no-answer c o d = rw (ne-eqb (c .who) b d)
 
   own-call : (past : List Call) (act : Act)
-      → seen b (toldBy b (call b act) (step w (call b act))) ≡ seen b (replay b w′ (items b past (isAccepted w (call b act)) (stateBefore w (call b act)) (call b act)))
+      → seen b (toldBy b (call b act) (step w (call b act)))
+      ≡ seen b (replay b w′ (items b past (isAccepted w (call b act)) (stateBefore w (call b act)) (call b act)))
   unfolding items tell
   own-call past act =
       rw (eq-eqb b b refl)
@@ -62,7 +63,8 @@ module _ (s : Settings) (a : accepted s ≡ true) (b : ℕ) (w w′ : World) (f 
   call-seen past c m words =
       by-equal (c .who) b
       (λ (q : c .who ≡ b).
-      subst (λ (k : ℕ). seen b (toldBy b (call k (c .act)) (step w (call k (c .act)))) ≡ seen b (replay b w′ (items b past (isAccepted w (call k (c .act))) (stateBefore w (call k (c .act))) (call k (c .act)))))
+      subst (λ (k : ℕ). seen b (toldBy b (call k (c .act)) (step w (call k (c .act))))
+      ≡ seen b (replay b w′ (items b past (isAccepted w (call k (c .act))) (stateBefore w (call k (c .act))) (call k (c .act)))))
       (sym q) (own-call past (c .act)))
       (λ (d : c .who ≡ b → ⊥).
       by-equal (refusal w c) 0
@@ -84,7 +86,8 @@ factored s a b (c ∷ cs) past w w′ f m words f′ e =
     let next : World = step w c .world in
     let ys : List Item = windowFrom b later next cs in
     let here = call-seen s a b w w′ f f′ e past c m words in
-    let rest = factored s a b cs later next (replay b w′ xs .world) (step-fit s w c a f) (step-remembered s w c a f past m) (step-written s a w c f words) (replay-fit s b w′ xs a f′) (ap (λ (x : Sight). x .view) here) in
+    let rest = factored s a b cs later next (replay b w′ xs .world) (step-fit s w c a f) (step-remembered s w c a f past m)
+    (step-written s a w c f words) (replay-fit s b w′ xs a f′) (ap (λ (x : Sight). x .view) here) in
     ap (λ (hs : List Observation). record { view = view b (after next cs); heard = hs })
     (sym (append-assoc (answerTo b c (step w c)) (deliveriesTo b (step w c .deliveries)) (observed b next cs)))
     ∙ ap₂ (λ (x y : Sight). heardFirst (x .heard) y) here rest

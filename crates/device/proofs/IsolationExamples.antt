@@ -174,7 +174,13 @@ interrupts (Observation.interrupted d ∷ os) = d ∷ interrupts os
 
 -- all that the examples compute with
 unfoldable pub computing : Unit {0}
-unfolding bytes number setByte first every below fields fieldByte configurationByte masks maskIn maskAt maskOf withByte writtenByte configurationWritten Configuration.configurationRead changes announces registerStored effect start observed deliveriesTo answerTo inTable withWord msixWritten lentTo accessOf wrongRegion shortTable missing present wrongWidth misaligned outside forbidden isConnected refusal registerAt memoryOn registerValue Registers.registerRead gateOf opens target deliveryOf afterDelivery ringAt ring ringFrom Ring.ringOthers outputs sections sectionIn sectionOf somewhere mayStore total accepted freshHub maxPeers maxVectors peerFixed peerReset entryFixed entryReset peerSound entrySound slotSound sound run runAll stepBy step memoryAfter memoryBit wordSent sentBy sent items windowFrom window zeroSlot resetSlot
+unfolding bytes number setByte first every below fields fieldByte configurationByte masks maskIn maskAt maskOf withByte
+    writtenByte configurationWritten Configuration.configurationRead changes announces registerStored effect start observed
+    deliveriesTo answerTo inTable withWord msixWritten lentTo accessOf wrongRegion shortTable missing present wrongWidth
+    misaligned outside forbidden isConnected refusal registerAt memoryOn registerValue Registers.registerRead gateOf opens
+    target deliveryOf afterDelivery ringAt ring ringFrom Ring.ringOthers outputs sections sectionIn sectionOf somewhere mayStore
+    total accepted freshHub maxPeers maxVectors peerFixed peerReset entryFixed entryReset peerSound entrySound slotSound sound
+    run runAll stepBy step memoryAfter memoryBit wordSent sentBy sent items windowFrom window zeroSlot resetSlot
 computing = tt
 
 calls-coded : Coded calls
@@ -210,7 +216,12 @@ unfolding computing
 hides = refl
 
 -- Some history delivers an interrupt to peer 0.
-pub delivered : interrupts (observed 0 (start numbers) (ready ++ (bell ∷ []))) ≡ record { target = peerId 0; vector = vector 0; address = 0; payload = 0x40 } ∷ []
+pub delivered : interrupts (observed 0 (start numbers) (ready ++ (bell ∷ []))) ≡ record {
+  target = peerId 0;
+  vector = vector 0;
+  address = 0;
+  payload = 0x40;
+} ∷ []
 unfolding computing
 delivered = refl
 

@@ -116,7 +116,8 @@ walked : (cs : List Call) (w : World) → countsOf w cs ≡ walk cs w
 unfolding throughout observed after count interrupts walk added withCall
 walked [] w = refl
 walked (c ∷ cs) w =
-    ap (λ (n : ℕ). counts (throughout 0 w (c ∷ cs)) n (interruptControl 0 (after w (c ∷ cs))) (timesCleared 0 w (c ∷ cs)) (timesSet 0 w (c ∷ cs)) (interruptControl 0 w))
+    ap (λ (n : ℕ). counts (throughout 0 w (c ∷ cs)) n (interruptControl 0 (after w (c ∷ cs))) (timesCleared 0 w (c ∷ cs))
+    (timesSet 0 w (c ∷ cs)) (interruptControl 0 w))
     (observed-more 0 w c cs)
     ∙ ap (λ (rest : Counts). withCall w c (step w c) rest) (walked cs (step w c .world))
 

@@ -113,7 +113,11 @@ module _ (b : ℕ) where
             λ o h.
             let here = first .level o h in
             let later = rest .level (rw (first .mode) o) (omega arith) in
-            rw (both-deliveries b (r .deliveries) (q .deliveries), interrupts-both (deliveriesTo b (r .deliveries)) (deliveriesTo b (q .deliveries))) (omega arith);
+            rw (
+              both-deliveries b (r .deliveries) (q .deliveries),
+              interrupts-both (deliveriesTo b (r .deliveries))
+                  (deliveriesTo b (q .deliveries)),
+            ) (omega arith);
       }
 
   -- The law of one ring at the peer.
@@ -130,7 +134,8 @@ module _ (b : ℕ) where
 
       delivered : (g : Gate) → gateAt (w .hub) (peerId b) v ≡ g → opens g ≡ true → Settled slot (sight b (ranRings (w .region) (opened g)))
       delivered g e o =
-          let here : slotAt (withSlot (w .hub) b (afterDelivery g slot)) b ≡ afterDelivery g slot = getD-set-same (w .hub .slots) b (afterDelivery g slot) zeroSlot near in
+          let here : slotAt (withSlot (w .hub) b (afterDelivery g slot)) b ≡ afterDelivery g slot =
+          getD-set-same (w .hub .slots) b (afterDelivery g slot) zeroSlot near in
           record {
             mode = rw here (delivery-mode g slot);
             level =

@@ -77,7 +77,8 @@ record Allowed (s : Settings) (x : Slot) (a : Act) : Type 0 where
 abbrev hubWith : Settings → List Slot → Hub
 hubWith s zs = record { settings = s; slots = zs }
 
-module _ (s : Settings) (a : accepted s ≡ true) (zs : List Slot) (i : ℕ) (near : i < length zs) (x : Slot) (here : getD zs i zeroSlot ≡ x) (act : Act) (ok : Allowed s x act) where
+module _ (s : Settings) (a : accepted s ≡ true) (zs : List Slot) (i : ℕ) (near : i < length zs) (x : Slot)
+    (here : getD zs i zeroSlot ≡ x) (act : Act) (ok : Allowed s x act) where
   allowed : (region : List ℕ) → Fit s (world (hubWith s zs) region) → refusal (world (hubWith s zs) region) (call i act) ≡ 0
   unfolding refusal first isConnected
   allowed region f =
@@ -208,7 +209,8 @@ module _ (s : Settings) (a : accepted s ≡ true) where
         go =
             λ zs i h e r.
             let q : Quiet (set zs i (begun v)) = quiet-set zs i (begun v) refl (r .1) in (
-              goes-on s a zs i h (begun 0) e (registerWrite (s .peers) 0x10 4 v) (register-allowed (begun 0) refl 0x10 v refl (omega arith)) (set zs i (begun v))
+              goes-on s a zs i h (begun 0) e (registerWrite (s .peers) 0x10 4 v) (register-allowed (begun 0) refl 0x10 v refl
+                  (omega arith)) (set zs i (begun v))
                   (λ region. rw (whole-word v small) (changed-lost (changes 0 v) i (set zs i (begun v)) _ q))
                   (r .0),
               q,
@@ -299,7 +301,8 @@ sound-is-reached hub shape =
           let each : (i : ℕ) → i < s .peers → slotSound s (slotAt hub i) ≡ true = below-true (s .peers) _ (and-right (accepted s) _ e) in
           rw (tabled zeroSlot (s .peers) (hub .slots) (shape .slots)) at
           (all-move s a (Left s a) (λ i. prepared s a (slotAt hub i)) (λ i. slotAt hub i) (λ i h. completes s a (slotAt hub i) (each i h) (shape .each i h))
-          (all-move s a (LeftQuiet s a) (λ i. resetSlot (s .vectors) 0) (λ i. prepared s a (slotAt hub i)) (λ i h. prepares s a (slotAt hub i) (shape .each i h .state)) (fresh s a) .0)),
+          (all-move s a (LeftQuiet s a) (λ i. resetSlot (s .vectors) 0) (λ i. prepared s a (slotAt hub i))
+          (λ i h. prepares s a (slotAt hub i) (shape .each i h .state)) (fresh s a) .0)),
       λ r.
           subst (λ (h : Hub). sound h ≡ true) (r .leaves)
           (fit-sound s (after (start s) (r .calls)) (r .numbers) (after-fit s (r .numbers) (start s) (r .calls) (start-fit s))),

@@ -78,9 +78,17 @@ tell-fit : (s : Settings) (b : ℕ) (w : World) (x : Item) → accepted s ≡ tr
 unfolding tell runAll run
 tell-fit s b w (Item.own a) h f = step-fit s w (call b a) h f
 tell-fit s b w (Item.bell v) h f =
-    record { fixed = runAll-frame b w (Operation.ringOne (peerId b) v ∷ []) ∙ f .fixed; slots = ring-keeps (Sound s) (λ i. delivery-sound s) (s .peers) (w .hub) (peerId b) v (f .slots) }
+    record {
+      fixed = runAll-frame b w (Operation.ringOne (peerId b) v ∷ []) ∙ f .fixed;
+      slots = ring-keeps (Sound s)
+          (λ i. delivery-sound s) (s .peers) (w .hub) (peerId b) v (f .slots);
+    }
 tell-fit s b w (Item.word who x) h f =
-    record { fixed = runAll-frame b w (Operation.write (4 * who) (bytes 4 x) ∷ Operation.ringOne (peerId b) (vector 0) ∷ []) ∙ f .fixed; slots = ring-keeps (Sound s) (λ i. delivery-sound s) (s .peers) (w .hub) (peerId b) (vector 0) (f .slots) }
+    record {
+      fixed = runAll-frame b w (Operation.write (4 * who) (bytes 4 x) ∷ Operation.ringOne (peerId b) (vector 0) ∷ [])
+          ∙ f .fixed;
+      slots = ring-keeps (Sound s) (λ i. delivery-sound s) (s .peers) (w .hub) (peerId b) (vector 0) (f .slots);
+    }
 tell-fit s b w (Item.bytes at bs) h f = record { fixed = runAll-frame b w (Operation.write at bs ∷ []) ∙ f .fixed; slots = f .slots }
 
 pub replay-fit : (s : Settings) (b : ℕ) (w : World) (xs : List Item) → accepted s ≡ true → Fit s w → Fit s (replay b w xs .world)
@@ -160,7 +168,8 @@ sent-told b who s slot region (configurationWrite at k x) on w m e same = refl
 sent-told b who s slot region (registerRead at k) on w m e same = refl
 sent-told b who s slot region (registerWrite n at k x) on w m e same = rw (e (eqb-true (slot .peer .connected) 1 (not-false _ m))) (go on)
   where
-    go : (t : Bool) → replay b w (cond t (sentBy b who (slot .peer .state) (registerAt at) x) []) ≡ toldOf b (runAll b w (reach b false (cond t (registerStored who slot (registerAt at) x) [])))
+    go : (t : Bool) → replay b w (cond t (sentBy b who (slot .peer .state) (registerAt at) x) [])
+        ≡ toldOf b (runAll b w (reach b false (cond t (registerStored who slot (registerAt at) x) [])))
     go true = stored-told b who slot (registerAt at) x w same
     go false = refl
 sent-told b who s slot region (msixRead at k) on w m e same = refl

@@ -83,7 +83,13 @@ module _ (b : ℕ) where
   -- a slot takes a value
   put-other : (w : World) (i : ℕ) (x : Slot) → (b ≡ i → ⊥) → view b (world (withSlot (w .hub) i x) (w .region)) ≡ view b w
   put-other w i x d =
-      λ j. record { settings = w .hub .settings; count = length-set (w .hub .slots) i x j; slot = getD-set-other (w .hub .slots) i b x zeroSlot d j; region = w .region }
+      λ j. record {
+        settings = w .hub .settings;
+        count = length-set (w .hub .slots) i x j;
+        slot = getD-set-other
+            (w .hub .slots) i b x zeroSlot d j;
+        region = w .region;
+      }
 
   put-here : (w w′ : World) (x : Slot) → view b w ≡ view b w′
       → view b (world (withSlot (w .hub) b x) (w .region)) ≡ view b (world (withSlot (w′ .hub) b x) (w′ .region))
@@ -101,9 +107,11 @@ module _ (b : ℕ) where
   ring-elsewhere w t v d = go (target (w .hub) t v)
     where
       by : (o : Bool) (g : Gate)
-          → sight b (ranRings (w .region) (cond o (rung (withSlot (w .hub) (t .0) (afterDelivery g (slotAt (w .hub) (t .0)))) (deliveryOf t v (entryAt (slotAt (w .hub) (t .0)) (v .0)) ∷ [])) (rung (w .hub) [])))
+          → sight b (ranRings (w .region) (cond o (rung (withSlot (w .hub) (t .0) (afterDelivery g (slotAt (w .hub) (t .0))))
+          (deliveryOf t v (entryAt (slotAt (w .hub) (t .0)) (v .0)) ∷ [])) (rung (w .hub) [])))
           ≡ sight b (ran w [])
-      by true g = rw (ne-eqb (t .0) b d) (ap (λ (x : View). record { view = x; heard = [] }) (put-other w (t .0) (afterDelivery g (slotAt (w .hub) (t .0))) (λ e. d (sym e))))
+      by true g = rw (ne-eqb (t .0) b d) (ap (λ (x : View). record { view = x; heard = [] })
+          (put-other w (t .0) (afterDelivery g (slotAt (w .hub) (t .0))) (λ e. d (sym e))))
       by false g = refl
 
       go : (x : Target) → sight b (ranRings (w .region) (ringAt (w .hub) t v x)) ≡ sight b (ran w [])
@@ -128,7 +136,8 @@ module _ (b : ℕ) where
       after : World → Gate → Rung
       after u g = rung (withSlot (u .hub) b (afterDelivery g (slotAt (u .hub) b))) (deliveryOf (peerId b) v (entryAt (slotAt (u .hub) b) (v .0)) ∷ [])
 
-      by : (o : Bool) (g : Gate) → sight b (ranRings (w .region) (cond o (after w g) (rung (w .hub) []))) ≡ sight b (ranRings (w′ .region) (cond o (after w′ g) (rung (w′ .hub) [])))
+      by : (o : Bool) (g : Gate) → sight b (ranRings (w .region) (cond o (after w g) (rung (w .hub) [])))
+          ≡ sight b (ranRings (w′ .region) (cond o (after w′ g) (rung (w′ .hub) [])))
       by true g =
           let hs : List Observation = deliveriesTo b (deliveryOf (peerId b) v (entryAt (slotAt (w′ .hub) b) (v .0)) ∷ []) in
           rw x (ap (λ (y : View). record { view = y; heard = hs }) (put-here w w′ (afterDelivery g (slotAt (w′ .hub) b)) e))
@@ -183,7 +192,8 @@ module _ (b : ℕ) where
   -- no peer has the id
   ring-nobody : (w : World) (v : Vector) → w .hub .settings .peers ≤ b → sight b (ranRings (w .region) (ring (w .hub) (peerId b) v)) ≡ sight b (ran w [])
   unfolding ring ringAt target
-  ring-nobody w v h = rw (every-false (ltb b (w .hub .settings .peers) ∷ eqb (slotAt (w .hub) b .peer .connected) 1 ∷ ltb (v .0) (w .hub .settings .vectors) ∷ []) 0 (le-ltb b (w .hub .settings .peers) h))
+  ring-nobody w v h = rw (every-false (ltb b (w .hub .settings .peers) ∷ eqb (slotAt (w .hub) b .peer .connected) 1
+      ∷ ltb (v .0) (w .hub .settings .vectors) ∷ []) 0 (le-ltb b (w .hub .settings .peers) h))
 
   -- so to the peer a ring at all others is no ring if it is its own, and a ring at its id if it is another's
   own-others : (w : World) → sight b (run b w Operation.ringOthers) ≡ sight b (ran w [])
@@ -198,7 +208,8 @@ module _ (b : ℕ) where
       n : ℕ
       n = w .hub .settings .peers
 
-      go : (t : Bool) → ltb b n ≡ t → sight b (ranRings (w .region) (ringFrom n 0 who (w .hub))) ≡ sight b (ranRings (w′ .region) (ring (w′ .hub) (peerId b) (vector 0)))
+      go : (t : Bool) → ltb b n ≡ t → sight b (ranRings (w .region) (ringFrom n 0 who (w .hub)))
+          ≡ sight b (ranRings (w′ .region) (ring (w′ .hub) (peerId b) (vector 0)))
       go true h = one-here n 0 who w w′ d (omega arith) (omega (arith, ltb-true)) e
       go false h =
           let m : w′ .hub .settings .peers ≡ n = ap (λ (y : View). y .settings .peers) (sym e) in
@@ -235,7 +246,8 @@ module _ (b who : ℕ) where
       by-equal (t .0) b
       (λ (q : t .0 ≡ b).
       let here : sight b r ≡ sight b r′ =
-      subst (λ (k : ℕ). sight b (ranRings (w .region) (ring (w .hub) (peerId k) v)) ≡ sight b (ranRings (w′ .region) (ring (w′ .hub) (peerId k) v))) (sym q) (ring-here b w w′ v e) in
+      subst (λ (k : ℕ). sight b (ranRings (w .region) (ring (w .hub) (peerId k) v))
+      ≡ sight b (ranRings (w′ .region) (ring (w′ .hub) (peerId k) v))) (sym q) (ring-here b w w′ v e) in
       rw (eq-eqb (t .0) b q)
       (joined-alike b r r′ (runAll who (r .world) os) (runAll b (r′ .world) (reach b mine os)) here
       (all-seen mine m os (r .world) (r′ .world) (ap (λ (x : Sight). x .view) here))))

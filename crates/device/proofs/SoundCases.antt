@@ -129,9 +129,11 @@ notReset =
     ++ (hub two (slot (resetPeer 0) (entry 0 0 1 1) resetEntry) present ∷ [])
 
 pub sound-hubs : every (map sound soundHubs) ≡ true
-unfolding soundHubs every below masks maskIn maskAt maskOf total accepted maxPeers maxVectors peerFixed peerReset entryFixed entryReset peerSound entrySound slotSound sound zeroSlot
+unfolding soundHubs every below masks maskIn maskAt maskOf total accepted maxPeers maxVectors peerFixed peerReset entryFixed
+    entryReset peerSound entrySound slotSound sound zeroSlot
 sound-hubs = refl
 
 pub unsound-hubs : every (map (λ h. not (sound h)) (unaccepted ++ unfixed ++ notReset)) ≡ true
-unfolding unaccepted unfixed notReset every below masks maskIn maskAt maskOf total accepted maxPeers maxVectors peerFixed peerReset entryFixed entryReset peerSound entrySound slotSound sound zeroSlot
+unfolding unaccepted unfixed notReset every below masks maskIn maskAt maskOf total accepted maxPeers maxVectors peerFixed
+    peerReset entryFixed entryReset peerSound entrySound slotSound sound zeroSlot
 unsound-hubs = refl

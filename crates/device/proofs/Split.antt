@@ -88,7 +88,8 @@ same-end at width j size h l e =
     (λ f. lt-ltb size (at + width) (omega (arith, ltb-true size (at + j + 1) f)))
     (λ f. lt-ltb size (at + j + 1) (omega (arith, ltb-true size (at + width) f)))
 
-byte-rows : (at width j : ℕ) → j < width → Splittable (first (configurationRows at width)) → first (configurationRows (at + j) 1) ≡ first (configurationRows at width)
+byte-rows : (at width j : ℕ) → j < width → Splittable (first (configurationRows at width)) →
+    first (configurationRows (at + j) 1) ≡ first (configurationRows at width)
 unfolding first
 byte-rows at width j h ok = go (anyWidth width) refl (eqb (at % width) 0) refl
   where

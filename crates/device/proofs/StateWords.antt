@@ -54,7 +54,8 @@ unfolding sectionIn mayStore
 found-above n who offset size [] a e = never e
 found-above n who offset size (x ∷ xs) a e = go (λ k. found-above n who offset size xs (a .1) k) (holds offset size x) refl e
   where
-    go : (mayStore who (sectionIn offset size xs) ≡ true → n ≤ offset) → (t : Bool) → holds offset size x ≡ t → mayStore who (cond t (x .kind) (sectionIn offset size xs)) ≡ true → n ≤ offset
+    go : (mayStore who (sectionIn offset size xs) ≡ true → n ≤ offset) → (t : Bool) → holds offset size x ≡ t →
+        mayStore who (cond t (x .kind) (sectionIn offset size xs)) ≡ true → n ≤ offset
     go rest true h k = le-trans (a .0 k) (leb-true (x .start) offset (and-left (leb (x .start) offset) (leb (offset + size) (x .start + x .size)) h))
     go rest false h k = rest k
 
@@ -220,7 +221,8 @@ module _ (s : Settings) (a : accepted s ≡ true) where
       let permitted : forbidden s (c .who) (accessOf (c .act)) ≡ false = rw (same s w c a f) at (taken w c e .permitted) in
       let words : Words s (c .who) slot (w .region) os =
       subst (λ (x : Settings). Words s (c .who) slot (w .region) (effect x (c .who) slot (w .region) (c .act) .operations)) (sym (same s w c a f))
-      (effect-words s (c .who) slot (w .region) (accepted-facts s a) (ap (λ (x : Frame). x .room) (f .fixed)) (small s w c a f e) (c .act) (taken w c e .absent) permitted
+      (effect-words s (c .who) slot (w .region) (accepted-facts s a) (ap (λ (x : Frame). x .room) (f .fixed))
+      (small s w c a f e) (c .act) (taken w c e .absent) permitted
       (f .slots (c .who) near) (h (c .who) near)) in
       let region : step w c .world .region ≡ written (w .region) os = ap (λ (x : World). x .region) (taken-world w c e) ∙ run-region (c .who) w os in
       subst (λ (r : List ℕ). Every (Worded s r) (s .peers) (step w c .world .hub)) (sym region)

@@ -145,7 +145,8 @@ module _ (hub : Hub) (t : PeerId) (v : Vector) where
   at-entries gate i w =
       getD-set (λ s. entryAt s w ≡ entryAt (slotAt hub i) w) (hub .slots) (t .0) i _ zeroSlot (λ e. rw (e, slot-entries gate (slotAt hub (t .0)))) refl
 
-  either-kept : (b : Bool) (gate : Gate) (d : Delivery) → Kept hub 1 (cond b (rung (withSlot hub (t .0) (afterDelivery gate (slotAt hub (t .0)))) (d ∷ [])) (rung hub []))
+  either-kept : (b : Bool) (gate : Gate) (d : Delivery) →
+      Kept hub 1 (cond b (rung (withSlot hub (t .0) (afterDelivery gate (slotAt hub (t .0)))) (d ∷ [])) (rung hub []))
   either-kept true gate d = record { settings = refl; entries = at-entries gate; few = omega arith }
   either-kept false gate d = none-kept hub 1
 

@@ -1,4 +1,5 @@
 pub mod QueryLaws
+pub mod ReadLaws
 pub mod RefusalLaws
 pub mod ReplyLaws
 pub mod RunLaws

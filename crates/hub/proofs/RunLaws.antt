@@ -121,7 +121,8 @@ restarts-ready ws mid region records id connected n own z =
 
 -- reset and disconnect: whichever act it is, the slot, the State Table entry and the rings are together its effect
 pub restarts-served : (ws mid after region after′ : List ℕ) (records id connected : ℕ) (n : Restarted) (act : Act) (r : Served)
-    → Restarts ws mid (length region) records id connected n → Told mid after region after′ id n r → lentTo act ≡ Lent.regionAndTable records → accessOf act ≡ Access.none
+    → Restarts ws mid (length region) records id connected n → Told mid after region after′ id n r → lentTo act
+    ≡ Lent.regionAndTable records → accessOf act ≡ Access.none
     → ((s : Settings) (who : ℕ) (slot : Slot) (bytes : List ℕ) → effect s who slot bytes act ≡ does (announces who slot (resetSlot (s .vectors) connected)))
     → Serves ws after region after′ (call id act) r
 unfolding announces resetSlot

@@ -1,3 +1,4 @@
 pub mod Admission
 pub mod Promises
 pub mod Queries
+pub mod Reads

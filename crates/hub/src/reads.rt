@@ -1,48 +1,76 @@
 // The calls that only read.
 use super::refusals;
+use device::Peer;
 use device::Reply;
 use device::SectionAnswer;
 use device::SectionKind;
 use device::SectionReply;
+use device::Settings;
 ghost use mathlib.Core.Path.{_≡_};
+ghost use mathlib.Core.Bool.{false};
+ghost use Prim.Native.Nat.{_+_, _%_, _^_, _<_, _≤_};
 ghost use Rattle.device.specs.Call.{call};
 ghost use Rattle.device.specs.Call;
 ghost use Rattle.device.specs.Sections.{noSection};
 ghost use Rattle.hub.specs.Promises.{Answers, AnswersQuestion};
+ghost use Rattle.hub.specs.Reads.{ownSize, ownWidth, ownValue, ownRead};
 
-pub fn configuration_read(hub: &[u32], id: u64, offset: u64, width: u64) -> Reply
-    ensures { λ r. ⌜ Answers (now (hub .entry)) (call id (Call.Act.configurationRead offset width)) r ⌝ }
+// What differs between a read of the register region and one of configuration space, which both look at the settings and at the
+// caller's registers alone: the space's size, the widths that it takes, and the value.
+fn own_size(registers: bool) -> u64
+    ensures { λ r. ⌜ r ≡ ownSize registers ⌝ }
 {
-    let allowed = (width == 1) | (width == 2) | (width == 4);
+    if registers { 4096 } else { 256 }
+}
+
+fn own_width(registers: bool, width: u64) -> bool
+    ensures { λ r. ⌜ r ≡ ownWidth registers width ⌝ }
+{
+    let any = (width == 1) | (width == 2) | (width == 4);
+    if registers { width == 4 } else { any }
+}
+
+fn own_value(s: Settings, id: u64, p: Peer, registers: bool, offset: u64, width: u64) -> u64
+    requires numbers { ⌜ (id < 2 ^ 32) × (s .peers < 2 ^ 32) ⌝ }
+    requires word { ⌜ (registers ≡ false → offset % 4 + width ≤ 4) ⌝ }
+    ensures is { λ r. ⌜ r ≡ ownValue registers s id p offset width ⌝ }
+    ensures fits { λ r. ⌜ r < 2 ^ 32 ⌝ }
+{
+    if registers {
+        return registers::read(s, id, p, offset);
+    }
+    configuration::read(s, p, offset, width)
+}
+
+fn own_read(hub: &[u32], id: u64, registers: bool, offset: u64, width: u64) -> Reply
+    ensures { λ r. ⌜ Answers (now (hub .entry)) (call id (ownRead registers offset width)) r ⌝ }
+{
     let lent = refusals::nothing_lent();
-    let number = refusals::space_refusal(hub, lent, id, 256, allowed, offset, width);
+    let size = own_size(registers);
+    let allowed = own_width(registers, width);
+    let number = refusals::space_refusal(hub, lent, id, size, allowed, offset, width);
     if number != 0 {
         return refusals::answered(number);
     }
     let s = words::settings(hub);
     let p = words::peer(hub, id as usize);
-    let value = configuration::read(s, p, offset, width);
+    let value = own_value(s, id, p, registers, offset, width);
     Reply {
         number: 0,
         value: value as u32,
     }
 }
 
+pub fn configuration_read(hub: &[u32], id: u64, offset: u64, width: u64) -> Reply
+    ensures { λ r. ⌜ Answers (now (hub .entry)) (call id (Call.Act.configurationRead offset width)) r ⌝ }
+{
+    own_read(hub, id, false, offset, width)
+}
+
 pub fn register_read(hub: &[u32], id: u64, offset: u64, width: u64) -> Reply
     ensures { λ r. ⌜ Answers (now (hub .entry)) (call id (Call.Act.registerRead offset width)) r ⌝ }
 {
-    let lent = refusals::nothing_lent();
-    let number = refusals::space_refusal(hub, lent, id, 4096, width == 4, offset, width);
-    if number != 0 {
-        return refusals::answered(number);
-    }
-    let s = words::settings(hub);
-    let p = words::peer(hub, id as usize);
-    let value = registers::read(s, id, p, offset);
-    Reply {
-        number: 0,
-        value: value as u32,
-    }
+    own_read(hub, id, true, offset, width)
 }
 
 pub fn msix_read(hub: &[u32], id: u64, offset: u64, width: u64) -> Reply

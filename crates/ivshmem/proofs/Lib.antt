@@ -1,3 +1,4 @@
+pub mod Given
 pub mod LentTable
 pub mod Restarting
 pub mod TableLaws

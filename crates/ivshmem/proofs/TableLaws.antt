@@ -40,7 +40,8 @@ module _ (who : ℕ) (w : World) (some : 0 < w .hub .settings .peers) where
       region : List ℕ
       region = sets (w .region) (4 * who) (bytes 4 (new .peer .state))
 
-      go : (t : Bool) → length (runAll who (world (withSlot (w .hub) who new) region) (cond t (Operation.ringOthers ∷ []) []) .deliveries) ≤ w .hub .settings .peers
+      go : (t : Bool) → length (runAll who (world (withSlot (w .hub) who new) region)
+          (cond t (Operation.ringOthers ∷ []) []) .deliveries) ≤ w .hub .settings .peers
       go true = rw append-nil (others-kept who _ .few)
       go false = omega arith
 
@@ -53,13 +54,15 @@ module _ (who : ℕ) (w : World) (some : 0 < w .hub .settings .peers) where
   few-stored slot Register.state value = few-announced slot _
   few-stored slot Register.none value = omega arith
 
-  few-written : (on : Bool) (slot : Slot) (r : Register) (value : ℕ) → length (runAll who w (cond on (registerStored who slot r value) []) .deliveries) ≤ w .hub .settings .peers
+  few-written : (on : Bool) (slot : Slot) (r : Register) (value : ℕ) →
+      length (runAll who w (cond on (registerStored who slot r value) []) .deliveries) ≤ w .hub .settings .peers
   unfolding runAll
   few-written true slot r value = few-stored slot r value
   few-written false slot r value = omega arith
 
 -- an accepted call that is lent a table has a hub with peers, and a record for each
-module _ (h : Hub) (region : List ℕ) (id : ℕ) (act : Act) (n : ℕ) (lent : lentTo act ≡ Lent.regionAndTable n) (e : refusal (world h region) (call id act) ≡ 0) where
+module _ (h : Hub) (region : List ℕ) (id : ℕ) (act : Act) (n : ℕ) (lent : lentTo act ≡ Lent.regionAndTable n)
+    (e : refusal (world h region) (call id act) ≡ 0) where
   none : (k : ℕ) → getD (checks (world h region) id (lentTo act) (accessOf act)) k (row 0 false) .holds ≡ false
   unfolding refusal
   none = first-none (checks (world h region) id (lentTo act) (accessOf act)) refl e
@@ -79,12 +82,14 @@ Roomy act = (h : Hub) (region : List ℕ) (id n : ℕ) → length (step (world h
 module _ (act : ℕ → Act) (lent : (n : ℕ) → lentTo (act n) ≡ Lent.regionAndTable n)
     (few : (h : Hub) (region : List ℕ) (id n : ℕ) → 0 < h .settings .peers →
     length (runAll id (world h region) (effectIn (world h region) (call id (act n)) .operations) .deliveries) ≤ h .settings .peers) where
-  room-by : (h : Hub) (region : List ℕ) (id n r : ℕ) → refusal (world h region) (call id (act n)) ≡ r → length (step (world h region) (call id (act n)) .deliveries) ≤ n
+  room-by : (h : Hub) (region : List ℕ) (id n r : ℕ) → refusal (world h region) (call id (act n)) ≡ r →
+      length (step (world h region) (call id (act n)) .deliveries) ≤ n
   room-by h region id n zero e =
       let l = few h region id n (peers-some h region id (act n) n (lent n) e) in
       let m = table-long h region id (act n) n (lent n) e in
       rw (accepted-effect (world h region) (call id (act n)) e) (le-trans l m)
-  room-by h region id n (suc r) e = rw (refused-changes-nothing (world h region) (call id (act n)) (λ z. let k : _≡_ {A = ℕ} (suc r) 0 = sym e ∙ z in absurd (omega arith))) (omega arith)
+  room-by h region id n (suc r) e = rw (refused-changes-nothing (world h region) (call id (act n))
+      (λ z. let k : _≡_ {A = ℕ} (suc r) 0 = sym e ∙ z in absurd (omega arith))) (omega arith)
 
   roomy : Roomy act
   roomy h region id n = room-by h region id n (refusal (world h region) (call id (act n))) refl
@@ -101,7 +106,8 @@ reset-room = roomy Act.reset (λ n. refl) (λ h region id n some. few-announced 
 
 pub disconnect-room : Roomy Act.disconnect
 unfolding lentTo effect
-disconnect-room = roomy Act.disconnect (λ n. refl) (λ h region id n some. few-announced id (world h region) some (slotAt h id) (resetSlot (h .settings .vectors) 0))
+disconnect-room = roomy Act.disconnect (λ n. refl) (λ h region id n some. few-announced id (world h region) some (slotAt h id)
+    (resetSlot (h .settings .vectors) 0))
 
 -- a refused step delivers nothing
 refused-nothing : (w : World) (c : Call) → (step w c .number ≡ 0 → ⊥) → step w c .deliveries ≡ []
@@ -124,5 +130,12 @@ module _ (hub after region regionAfter : List ℕ) (id : ℕ) (act : ℕ → Act
         left = s .left;
         table = rw (← deliveries) (e .0);
         count = e .1 ∙ s .list .count;
-        kept = λ h. (s .kept h, e .0 ∙ rw (deliveries, refused-nothing (world (hubOf hub) region) (call id (act (length table))) (λ z. h (ap (λ (a : Reply). a .number) (s .reply) ∙ z))));
+        kept = λ h. (
+          s .kept h,
+          e .0 ∙ rw (
+            deliveries,
+            refused-nothing (world (hubOf hub) region) (call id (act (length table)))
+                (λ z. h (ap (λ (a : Reply). a .number) (s .reply) ∙ z)),
+          ),
+        );
       }

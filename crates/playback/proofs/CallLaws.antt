@@ -43,7 +43,8 @@ effect-keeps w who (registerWrite n at k x) e = let z : _≡_ {A = ℕ} 0 1 = cc
 effect-keeps w who (msixRead at n) e = refl
 effect-keeps w who (msixWrite at n x) e = go (memoryOn (slotAt (w .hub) who .peer))
   where
-    go : (on : Bool) → runAll who w (cond on (Operation.own (Msix.msixWritten (w .hub .settings) (slotAt (w .hub) who) at x) ∷ []) []) .world .region ≡ w .region
+    go : (on : Bool) → runAll who w (cond on (Operation.own (Msix.msixWritten (w .hub .settings) (slotAt (w .hub) who) at x)
+        ∷ []) []) .world .region ≡ w .region
     go true = refl
     go false = refl
 effect-keeps w who (question at n) e = refl
@@ -106,9 +107,11 @@ module _ (hub region out outAfter : List ℕ) (c : Call) (n : ℕ) where
   changes-answer after r lent silent ch w =
       let s = step (world (hubOf hub) region) c in
       let e : replied (r .number) (done []) ≡ replied (s .number) (done (s .deliveries)) =
-      ap (λ (x : Reply). replied (x .number) (done [])) (ch .reply region) ∙ ap (λ (ds : List Delivery). replied (s .number) (done ds)) (sym (quiet (world (hubOf hub) region) c silent)) in
+      ap (λ (x : Reply). replied (x .number) (done [])) (ch .reply region)
+      ∙ ap (λ (ds : List Delivery). replied (s .number) (done ds)) (sym (quiet (world (hubOf hub) region) c silent)) in
       record {
-        left = ap (λ (h : Hub). world h region) (ch .hub region) ∙ ap (λ (g : List ℕ). world (s .world .hub) g) (sym (region-kept (world (hubOf hub) region) c lent));
+        left = ap (λ (h : Hub). world h region) (ch .hub region) ∙ ap (λ (g : List ℕ). world (s .world .hub) g)
+            (sym (region-kept (world (hubOf hub) region) c lent));
         written = writes-same e w;
       }
 
@@ -119,7 +122,8 @@ module _ (hub region out outAfter : List ℕ) (c : Call) (n : ℕ) where
   stores-answer regionAfter r silent st w =
       let s = step (world (hubOf hub) region) c in
       let e : replied (r .number) (done []) ≡ replied (s .number) (done (s .deliveries)) =
-      ap (λ (x : Reply). replied (x .number) (done [])) (st .reply) ∙ ap (λ (ds : List Delivery). replied (s .number) (done ds)) (sym (quiet (world (hubOf hub) region) c silent)) in
+      ap (λ (x : Reply). replied (x .number) (done [])) (st .reply) ∙ ap (λ (ds : List Delivery). replied (s .number) (done ds))
+      (sym (quiet (world (hubOf hub) region) c silent)) in
       record { left = st .region; written = writes-same e w }
 
   -- the calls that may ring, with a table for all peers
@@ -130,5 +134,6 @@ module _ (hub region out outAfter : List ℕ) (c : Call) (n : ℕ) where
     served-answer w =
         let s = step (world (hubOf hub) region) c in
         let e : replied (r .reply .number) (done (listed (hubOf after) (r .list))) ≡ replied (s .number) (done (s .deliveries)) =
-        ap (λ (x : Reply). replied (x .number) (done (listed (hubOf after) (r .list)))) (sv .reply) ∙ ap (λ (ds : List Delivery). replied (s .number) (done ds)) (sv .list .deliveries) in
+        ap (λ (x : Reply). replied (x .number) (done (listed (hubOf after) (r .list)))) (sv .reply)
+        ∙ ap (λ (ds : List Delivery). replied (s .number) (done ds)) (sv .list .deliveries) in
         record { left = sv .left; written = writes-same e w }

@@ -54,11 +54,17 @@ unfolding setUp field kindOf requestOf number answer replied setUpNumber setUpRe
 first-answer = refl
 
 second-answer : answer (start numbers) (requestOf (kindOf joins) joins) ≡ answered connected (0x81 ∷ [])
-unfolding connected joins number field kindOf requestOf answer replied allDelivered step stepBy run runAll effect start freshHub resetSlot zeroSlot refusal first every below lentTo accessOf wrongRegion shortTable missing present wrongWidth misaligned outside forbidden isConnected sound accepted total maxPeers maxVectors slotSound peerSound entrySound peerFixed peerReset entryFixed entryReset
+unfolding connected joins number field kindOf requestOf answer replied allDelivered step stepBy run runAll effect start freshHub
+    resetSlot zeroSlot refusal first every below lentTo accessOf wrongRegion shortTable missing present wrongWidth misaligned
+    outside forbidden isConnected sound accepted total maxPeers maxVectors slotSound peerSound entrySound peerFixed peerReset
+    entryFixed entryReset
 second-answer = refl
 
 third-answer : answer connected (requestOf (kindOf asks) asks) ≡ answered answering (0x82 ∷ 0xFF ∷ 0xFF ∷ 0xFF ∷ 0xFF ∷ [])
-unfolding connected answering asks bytes number field kindOf requestOf answer replied step stepBy run runAll effect registerRead registerAt registerValue memoryOn start freshHub resetSlot zeroSlot refusal first every below lentTo accessOf wrongRegion shortTable missing present wrongWidth misaligned outside forbidden isConnected sound accepted total maxPeers maxVectors slotSound peerSound entrySound peerFixed peerReset entryFixed entryReset
+unfolding connected answering asks bytes number field kindOf requestOf answer replied step stepBy run runAll effect registerRead
+    registerAt registerValue memoryOn start freshHub resetSlot zeroSlot refusal first every below lentTo accessOf wrongRegion
+    shortTable missing present wrongWidth misaligned outside forbidden isConnected sound accepted total maxPeers maxVectors
+    slotSound peerSound entrySound peerFixed peerReset entryFixed entryReset
 third-answer = refl
 
 -- 'gives 81 81 82 FFFFFFFF'
@@ -66,7 +72,8 @@ pub the-case : played (joined (setUp ∷ joins ∷ asks ∷ [])) ≡ 0x81 ∷ 0x
 unfolding setUp joins asks kindOf recordLength fedPieces playedInPieces inside
 the-case =
     let one : fedAll fed fresh setUp ≡ fedTo (player (start numbers) [] false) (0x81 ∷ []) = records-are-answered nowhere setUp refl ∙ ap after first-answer in
-    let two : fedAll fed (player (start numbers) [] false) joins ≡ fedTo (player connected [] false) (0x81 ∷ []) = records-are-answered (start numbers) joins refl ∙ ap after second-answer in
+    let two : fedAll fed (player (start numbers) [] false) joins ≡ fedTo (player connected [] false) (0x81 ∷ []) =
+    records-are-answered (start numbers) joins refl ∙ ap after second-answer in
     let three : fedAll fed (player connected [] false) asks ≡ fedTo (player answering [] false) (0x82 ∷ 0xFF ∷ 0xFF ∷ 0xFF ∷ 0xFF ∷ []) =
     records-are-answered connected asks refl ∙ ap after third-answer in
     sym (cutting-changes-nothing (setUp ∷ joins ∷ asks ∷ [])) ∙ rw (one, two, three)

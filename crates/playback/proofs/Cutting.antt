@@ -69,7 +69,8 @@ longer h b = length-append h (b ∷ [])
 abbrev Some : List ℕ → Type 0
 Some l = 0 < length l
 
-held-on : (w : World) (h bs : List ℕ) → Some h → length h + length bs < recordLength (kindOf h) → fedAll fed (player w h false) bs ≡ fedTo (player w (h ++ bs) false) []
+held-on : (w : World) (h bs : List ℕ) → Some h → length h + length bs < recordLength (kindOf h) →
+    fedAll fed (player w h false) bs ≡ fedTo (player w (h ++ bs) false) []
 unfolding fedAll
 held-on w h [] s l = rw append-nil
 held-on w h (b ∷ bs) s l =
@@ -84,7 +85,8 @@ unfolding fedAll
 answered-on w h [] b s e =
     let k : kindOf (h ++ (b ∷ [])) ≡ kindOf h = kind-first h (b ∷ []) s in
     let n : length (h ++ (b ∷ [])) ≡ length h + 1 = longer h b in
-    let here : fed (player w h false) b ≡ after (answer w (requestOf (kindOf (h ++ (b ∷ []))) (h ++ (b ∷ [])))) = one-more w h b ∙ come-whole w (h ++ (b ∷ [])) (rw k (omega arith)) in
+    let here : fed (player w h false) b ≡ after (answer w (requestOf (kindOf (h ++ (b ∷ []))) (h ++ (b ∷ [])))) = one-more w h b
+    ∙ come-whole w (h ++ (b ∷ [])) (rw k (omega arith)) in
     rw (here, append-nil)
 answered-on w h (c ∷ bs) b s e =
     let k : kindOf (h ++ (b ∷ [])) ≡ kindOf h = kind-first h (b ∷ []) s in

@@ -40,4 +40,10 @@ module _ (hub : Hub) (v : Vector) (targets : List ℕ) (i : ℕ) where
       → allDelivered (firstOf hub v targets i) ++ delivered (sentAt hub v (getD targets i 0)) ≡ allDelivered (firstOf hub v targets (i + 1))
   unfolding allDelivered
   first-more h =
-      rw (add-one i, take-suc targets i 0 h, map-append (sentAt hub v) (take i targets) (getD targets i 0 ∷ []), all-append (map (sentAt hub v) (take i targets)) _, append-nil)
+      rw (
+        add-one i,
+        take-suc targets i 0 h,
+        map-append (sentAt hub v) (take i targets) (getD targets i 0 ∷ []),
+        all-append (map (sentAt hub v) (take i targets)) _,
+        append-nil,
+      )

@@ -74,7 +74,8 @@ module _ (p₀ : Player) (hub region held piece out₀ out : List ℕ) (p : Prog
       let put = over-then at (f .written) out₀ atlong (w .fits) out (fed q b .written) rest (w .bytes) (g .written .bytes) in
       let part : length (take (length out - at) (drop at out)) ≡ length out₀ - at = simp (length-take, length-drop) (omega (arith, same-room)) in
       let rest-room : length out₀ - at - length (fed q b .written) ≡ length out₀ - (at + n) = omega (arith, g .written .count) in
-      let more : takenWithin (length out₀ - at) q (drop i piece) ≡ suc (takenWithin (length out₀ - (at + n)) (playerIn hubAfter regionAfter heldAfter next) (drop (i + 1) piece)) =
+      let more : takenWithin (length out₀ - at) q (drop i piece)
+      ≡ suc (takenWithin (length out₀ - (at + n)) (playerIn hubAfter regionAfter heldAfter next) (drop (i + 1) piece)) =
       rw (drop-cons piece i 0 l, taken-one (length out₀ - at) q b (drop (suc i) piece) room, rest-room, ← (g .player), ← (add-one i)) in
       record {
         within = omega arith;

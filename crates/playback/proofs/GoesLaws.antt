@@ -31,10 +31,12 @@ module _ (hub region held out outAfter : List ℕ) (words bytes n : ℕ) where
   pub call-goes : (hubAfter regionAfter : List ℕ) (q : Request) → answer (worldIn hub region words bytes) q .stops ≡ false
       → Lent hub region held (inUse words bytes false) → length hubAfter ≡ words → length regionAfter ≡ bytes
       → Answers (take words hub) hubAfter (take bytes region) regionAfter out outAfter q n
-      → Goes (hubAfter ++ drop words hub) (regionAfter ++ drop bytes region) held out outAfter (inUse words bytes false) n (after (answer (worldIn hub region words bytes) q))
+      → Goes (hubAfter ++ drop words hub) (regionAfter ++ drop bytes region) held out outAfter (inUse words bytes false) n
+      (after (answer (worldIn hub region words bytes) q))
   call-goes hubAfter regionAfter q on lent nh nr a =
       record {
-        player = rw (take-at hubAfter (drop words hub) words nh, take-at regionAfter (drop bytes region) bytes nr, on) (ap (λ (w : World). player w [] false) (a .left));
+        player = rw (take-at hubAfter (drop words hub) words nh, take-at regionAfter (drop bytes region) bytes nr, on)
+            (ap (λ (w : World). player w [] false) (a .left));
         written = a .written;
         lent = lent-back hub region held _ hubAfter regionAfter nh nr lent;
       }
@@ -56,7 +58,8 @@ module _ (hub region held out : List ℕ) (p : Progress) (byte : ℕ) (lent : Le
   abbrev pub longer : Progress
   longer = record { words = p .words; bytes = p .bytes; held = p .held + 1; stopped = false }
 
-  pub held-goes : p .stopped ≡ false → p .held + 1 < recordLength (getD more 0 0) → Goes hub region more out out longer 0 (fed (playerIn hub region held p) byte)
+  pub held-goes : p .stopped ≡ false → p .held + 1 < recordLength (getD more 0 0) → Goes hub region more out out longer 0
+      (fed (playerIn hub region held p) byte)
   held-goes e l =
       let b = byte-held (worldIn hub region (p .words) (p .bytes)) held (p .held) byte (lent .few) l in
       let few : p .held + 1 < length held = omega (arith, record-short (getD more 0 0), lent .heldLength) in

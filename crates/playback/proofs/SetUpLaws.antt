@@ -81,7 +81,8 @@ module _ (hub region held out outAfter : List ℕ) (s : Settings) (w : World) (n
       let number : r .number ≡ 0 = ap (λ (x : Reply). x .number) (sv .reply) ∙ rw (eq-eqb _ _ room) (no-refusal s (take bytes region) (ok .0) all) in
       let e : setUpNumber s ≡ 0 = taken s (ok .0) (le-leb _ _ (ok .1)) in
       let h : hubOf (take words (hubAfter ++ drop words hub)) ≡ freshHub s = rw (take-at hubAfter (drop words hub) words nh) (sv .hub ∙ rw number) in
-      let g : take bytes (regionAfter ++ drop bytes region) ≡ replicate (total s) 0 = rw (take-at regionAfter (drop bytes region) bytes nr) (sv .region ∙ rw (number, all)) in
+      let g : take bytes (regionAfter ++ drop bytes region) ≡ replicate (total s) 0 =
+      rw (take-at regionAfter (drop bytes region) bytes nr) (sv .region ∙ rw (number, all)) in
       record {
         player = rw (h, g, e);
         written = rw (e, ← number) ws;

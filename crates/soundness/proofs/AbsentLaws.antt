@@ -87,7 +87,8 @@ module _ (ws : List ℕ) where
       let end : i + (j - i) ≡ j = omega (arith, n .order) in
       let rest : below (j - i) (λ k. absentSlot ws (i + k)) ≡ true =
       true-below (j - i) _ (λ k h. rw (n .passed (i + k) (omega arith) (omega (arith, n .order)))) in
-      sym (and-true (below i (absentSlot ws))) ∙ ap (λ (b : Bool). below i (absentSlot ws) && b) (sym rest) ∙ sym (below-add i (j - i) (absentSlot ws)) ∙ ap (λ (m : ℕ). below m (absentSlot ws)) end
+      sym (and-true (below i (absentSlot ws))) ∙ ap (λ (b : Bool). below i (absentSlot ws) && b) (sym rest)
+      ∙ sym (below-add i (j - i) (absentSlot ws)) ∙ ap (λ (m : ℕ). below m (absentSlot ws)) end
 
   -- with a run, and the connected peers after it, all up to the next are tested
   pub absent-more : (i peers j : ℕ) (gap : Gap) (ok : Bool) → Vacant ws i peers gap → NextAbsent ws (gap .to) peers j → ok ≡ below i (absentSlot ws)

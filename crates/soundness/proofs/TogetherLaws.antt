@@ -19,7 +19,8 @@ use Rattle.soundness.specs.Together.{together}
 
 -- a list of tests, each of two things, tests both
 every-both : (a b : Bool) (ts : List (Bool × Bool))
-    → everyAfter (a && b) (map (λ (t : Bool × Bool). t .0 && t .1) ts) ≡ (everyAfter a (map (λ (t : Bool × Bool). t .0) ts) && everyAfter b (map (λ (t : Bool × Bool). t .1) ts))
+    → everyAfter (a && b) (map (λ (t : Bool × Bool). t .0 && t .1) ts)
+    ≡ (everyAfter a (map (λ (t : Bool × Bool). t .0) ts) && everyAfter b (map (λ (t : Bool × Bool). t .1) ts))
 every-both a b [] = refl
 every-both a b (t ∷ ts) =
     ap (λ (ok : Bool). everyAfter ok (map (λ (t : Bool × Bool). t .0 && t .1) ts)) (and-swap a b (t .0) (t .1)) ∙ every-both (a && t .0) (b && t .1) ts

@@ -58,7 +58,8 @@ module _ (ws : List ℕ) (s : Settings) (e : s ≡ hubOf ws .settings) where
   slots-by a b same =
       sym (below-both (s .peers) a b)
       ∙ below-ext (s .peers) _ _ same
-      ∙ ap (λ (r : Settings). below (s .peers) (λ k. peerSound s (slotAt (hubOf ws) k .peer) && below (r .vectors) (λ v. entrySound (slotAt (hubOf ws) k .peer) (entryAt (slotAt (hubOf ws) k) v)))) (sym e)
+      ∙ ap (λ (r : Settings). below (s .peers) (λ k. peerSound s (slotAt (hubOf ws) k .peer) && below (r .vectors)
+      (λ v. entrySound (slotAt (hubOf ws) k .peer) (entryAt (slotAt (hubOf ws) k) v)))) (sym e)
 
   pub all-joined : ((k : ℕ) → k < s .peers → joined ws k ≡ true)
       → (below (s .peers) (λ k. peerFixed s (slotAt (hubOf ws) k .peer)) && below (s .peers) (entriesSound (hubOf ws)))

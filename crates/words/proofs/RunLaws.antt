@@ -64,7 +64,8 @@ module _ (ws : List ℕ) (from to : ℕ) (r : Run ws from to) where
       record { start = start; size = size; column = column; inside = rw (start, size, column) (omega (arith, sized .size)) }
 
   -- a test of each word of the run is a test of each entry
-  pub run-is : (p : Places) (t : Entry → Bool) → Stands ws from to p → below (p .size) (λ k. t (entryFrom ws (p .start + k) (p .column))) ≡ runOf (hubOf ws) from to t
+  pub run-is : (p : Places) (t : Entry → Bool) → Stands ws from to p →
+      below (p .size) (λ k. t (entryFrom ws (p .start + k) (p .column))) ≡ runOf (hubOf ws) from to t
   unfolding runOf
   run-is p t s =
       let n : ℕ = word ws 0 in

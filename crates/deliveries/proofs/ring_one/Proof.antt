@@ -19,12 +19,13 @@ same-length c = search needs
 returns : tie.Need-returns
 unfolding maxPeers
 returns c =
+    let c6 = c .before .before .before .before .before .before in
     let r = c .before .before .before .ring in
-    let a = c .before .before .before .before .before .before .args in (
+    let a = c6 .args in (
       r .ensures .0,
       ⊎-elim
           (λ w. ring-sent _ _ _ _ _ (r .ensures .0) (r .ensures .1) _ _ (w .0 .taken) (w .1)
-          (id-byte _ (peer-below (a .hub .now) _ (c .before .before .before .before .before .before .pre) (reached _ (a .t) (a .v) (rw (w .0 .taken) at (r .ensures .1))))))
+          (id-byte _ (peer-below (a .hub .now) _ (c6 .pre) (reached _ (a .t) (a .v) (rw (w .0 .taken) at (r .ensures .1))))))
           (λ w. ring-lost _ _ _ _ _ (r .ensures .0) (r .ensures .1) _ _ (w .0 .left) (w .1))
           (c .if1 .came),
     )

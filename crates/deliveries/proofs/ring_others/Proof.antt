@@ -41,10 +41,16 @@ count-below : (c : tie.In-loop Inv-loop μ-loop) → c .before .loop .count < ma
 count-below c = omega (arith, id-below c)
 
 -- what the turn's ring gave is listed, whichever it was
-more : (c : tie.Joined1 Inv-loop μ-loop) → More (hubOf (c .before .before .before .before .before .before .loop .hub)) (c .before .before .before .before .before .before .loop .i) (ofZero (c .before .before .before .before .before .before .loop .count) (c .before .before .before .before .before .before .loop .targets)) (c .before .before .before .ring-other .result) (ofZero (c .if1 .count) (c .if1 .targets))
+more : (c : tie.Joined1 Inv-loop μ-loop) → More (hubOf (c .before .before .before .before .before .before .loop .hub))
+    (c .before .before .before .before .before .before .loop .i)
+    (ofZero (c .before .before .before .before .before .before .loop .count)
+    (c .before .before .before .before .before .before .loop .targets)) (c .before .before .before .ring-other .result)
+    (ofZero (c .if1 .count) (c .if1 .targets))
 more c =
+    let c5 = c .before .before .before .before .before in
+    let c6 = c5 .before in
     ⊎-elim
-    (λ w. rw (w .1, w .2, w .0 .taken) (more-delivered _ _ _ _ (rw (c .before .before .before .before .before .before .loop .inv .room) (count-below (c .before .before .before .before .before)))))
+    (λ w. rw (w .1, w .2, w .0 .taken) (more-delivered _ _ _ _ (rw (c6 .loop .inv .room) (count-below (c5)))))
     (λ w. rw (w .1, w .2, w .0 .left) (more-lost _ _ _))
     (c .if1 .came)
 
@@ -88,15 +94,18 @@ loop-less c = omega arith
 
 loop-again : tie.Need-loop-again Inv-loop μ-loop
 loop-again c =
+    let c5 = c .before .before .before .before .before in
+    let c6 = c5 .before in
     let s = ap (λ (h : Hub). h .settings) (c .before .before .before .ring-other .ensures .0) ∙ but-kept _ _ _ .settings in
     record {
-      usable = usable-kept _ _ (c .before .before .before .before .before .before .loop .inv .usable) s;
-      kept = c .before .before .before .ring-other .kept .0 ∙ c .before .before .before .before .before .before .loop .inv .kept;
-      same = c .before .before .before .before .before .before .loop .inv .same ∙ ap (λ (s : Settings). s .peers) (sym s);
+      usable = usable-kept _ _ (c6 .loop .inv .usable) s;
+      kept = c .before .before .before .ring-other .kept .0 ∙ c6 .loop .inv .kept;
+      same = c6 .loop .inv .same ∙ ap (λ (s : Settings). s .peers) (sym s);
       bound = omega arith;
       few = omega (arith, more c .few);
-      room = more c .room ∙ c .before .before .before .before .before .before .loop .inv .room;
-      rest = rest-more _ _ _ _ _ _ _ _ _ (c .before .before .before .before .before .loop-test .taken) (c .before .before .before .ring-other .ensures .0) (c .before .before .before .ring-other .ensures .1) (more c) (c .before .before .before .before .before .before .loop .inv .rest);
+      room = more c .room ∙ c6 .loop .inv .room;
+      rest = rest-more _ _ _ _ _ _ _ _ _ (c5 .loop-test .taken) (c .before .before .before .ring-other .ensures .0)
+          (c .before .before .before .ring-other .ensures .1) (more c) (c6 .loop .inv .rest);
     }
 
 same-length : tie.Need-same-length Inv-loop μ-loop
@@ -105,7 +114,8 @@ same-length c = c .before .loop .inv .kept
 returns : tie.Need-returns Inv-loop μ-loop
 returns c =
     let r = rest-last _ _ _ _ _ _ (c .loop-test .left) (c .before .loop .inv .rest) in
-    let few = counted (hubOf (c .before .loop .hub)) (ofZero (c .before .loop .count) (c .before .loop .targets)) (omega (arith, accepted-facts _ (c .before .loop .inv .usable .numbers) .peers)) in
+    let few = counted (hubOf (c .before .loop .hub)) (ofZero (c .before .loop .count) (c .before .loop .targets))
+    (omega (arith, accepted-facts _ (c .before .loop .inv .usable .numbers) .peers)) in
     (r .0, record { deliveries = r .1; count = few ∙ ap length (r .1) })
 
 pub ring-others-spec : {M : Type 1} → statement M

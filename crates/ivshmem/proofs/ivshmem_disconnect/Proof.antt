@@ -24,4 +24,5 @@ ivshmem-disconnect-spec 𝓤 H 𝓜 𝓖 𝓡 =
     (tables 𝓤 H 𝓜 𝓡 code.env .C) (tables 𝓤 H 𝓜 𝓡 code.env .Λ) #ivshmem·ivshmem-disconnect code.function (code.unfolded 𝓤 H 𝓜 𝓡)
     (meets 𝓤 H (𝓖 .A) (givenOf 𝓤 H 𝓜 𝓖) (𝓜 .mem) (𝓡 .run) Act.disconnect disconnect-room #hub·disconnect (tablesOf 𝓤 H 𝓜 (tables 𝓤 H 𝓜 𝓡 code.env))
     (cited 𝓤 H (Core 𝓤 H (𝓖 .A) Act.disconnect) 𝓜 𝓡 code.env #hub·disconnect core-def.routine code.calls-hub·disconnect (core-thm.met 𝓤 H 𝓜 𝓖 𝓡))
-    (cited 𝓤 H (HandOut 𝓤 H (𝓖 .A) (𝓜 .mem) (𝓡 .run)) 𝓜 𝓡 code.env #deliveries·hand-out hand-out-def.routine code.calls-deliveries·hand-out (hand-out-thm.met 𝓤 H 𝓜 𝓖 𝓡)))
+    (cited 𝓤 H (HandOut 𝓤 H (𝓖 .A) (𝓜 .mem) (𝓡 .run)) 𝓜 𝓡 code.env #deliveries·hand-out hand-out-def.routine
+    code.calls-deliveries·hand-out (hand-out-thm.met 𝓤 H 𝓜 𝓖 𝓡)))

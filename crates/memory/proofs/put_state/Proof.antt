@@ -32,9 +32,10 @@ same-length c = search needs
 
 returns : tie.Need-returns
 returns c =
-    let a = c .before .before .before .before .before .args in
+    let c5 = c .before .before .before .before .before in
+    let a = c5 .args in
     let n : 4 * a .id + 4 - 4 * a .id ≡ 4 = omega arith in
-    rw (c .before .before .put-word .ensures, n) (part-back (a .region .now) (bytes 4 (a .value)) (4 * a .id) 4 (length-bytes 4 (a .value)) (c .before .before .before .before .before .pre))
+    rw (c .before .before .put-word .ensures, n) (part-back (a .region .now) (bytes 4 (a .value)) (4 * a .id) 4 (length-bytes 4 (a .value)) (c5 .pre))
 
 pub put-state-spec : {M : Type 1} → statement M
 put-state-spec =

@@ -20,8 +20,21 @@ same-length-3 : tie.Need-same-length-3
 same-length-3 c = search needs
 
 returns : tie.Need-returns
-returns c = rw (c .reported .ensures)
-    (c .before .before .refusal .ensures .0, (λ h. record { hubKept = refl; regionKept = refl; heldKept = refl; outKept = refl; progress = refl; taken = refl; written = refl }, λ z. absurd (c .before .if1 .taken z)))
+returns c = rw (c .reported .ensures) (
+  c .before .before .refusal .ensures .0,
+  (
+    λ h. record {
+      hubKept = refl;
+      regionKept = refl;
+      heldKept = refl;
+      outKept = refl;
+      progress = refl;
+      taken = refl;
+      written = refl;
+    },
+    λ z. absurd (c .before .if1 .taken z),
+  ),
+)
 
 feed-lent-requires : tie.Need-feed-lent-requires
 feed-lent-requires c κs = c .before .before .before .before .before .refusal .ensures .1 (c .before .before .before .before .if1 .left)
@@ -40,8 +53,11 @@ same-length-7 c = search needs
 
 returns-2 : tie.Need-returns-2
 returns-2 c =
-    let f = c .before .before .before .before .before .before .before .before .feed-lent .ensures in
-    (f .number ∙ sym (c .before .before .before .before .before .before .before .before .before .before .before .before .before .if1 .left) ∙ c .before .before .before .before .before .before .before .before .before .before .before .before .before .before .refusal .ensures .0, (λ h. absurd (h (f .number)), λ z. f))
+    let c8 = c .before .before .before .before .before .before .before .before in
+    let c13 = c8 .before .before .before .before .before in
+    let c14 = c13 .before in
+    let f = c8 .feed-lent .ensures in
+    (f .number ∙ sym (c13 .if1 .left) ∙ c14 .refusal .ensures .0, (λ h. absurd (h (f .number)), λ z. f))
 
 pub feed-spec : {M : Type 1} → statement M
 feed-spec =

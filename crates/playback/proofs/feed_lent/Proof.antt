@@ -30,26 +30,52 @@ loop-holds : tie.Need-loop-holds Inv-loop μ-loop
 loop-holds c = fed-none _ _ _ _ _ _ (c .before .before .before .before .before .before .pre .0)
 
 shared-slice-read-take-byte : tie.Need-shared-slice-read-take-byte Inv-loop μ-loop
-shared-slice-read-take-byte c = ltb-true _ _ (and-left (ltb (c .before .before .before .before .before .loop .i) (length (c .before .before .before .before .before .before .before .before .before .before .before .before .args .piece .now))) (leb (c .before .before .before .before .before .loop .at) (length (c .before .before .before .before .before .before .before .before .before .before .before .before .args .out .now) - c .before .before .before .before .before .before .longest-answer .result)) (c .before .before .before .before .loop-test .taken))
+shared-slice-read-take-byte c =
+    let c4 = c .before .before .before .before in
+    let c5 = c4 .before in
+    let c6 = c5 .before in
+    let c12 = c6 .before .before .before .before .before .before in
+    ltb-true _ _ (and-left (ltb (c5 .loop .i) (length (c12 .args .piece .now)))
+    (leb (c5 .loop .at) (length (c12 .args .out .now) - c6 .longest-answer .result)) (c4 .loop-test .taken))
 
 sub-take-byte : tie.Need-sub-take-byte Inv-loop μ-loop
 sub-take-byte c =
-    let l = c .before .before .before .before .before .loop .inv in
-    let i : c .before .before .before .before .before .loop .i < length (c .before .before .before .before .before .before .before .before .before .before .before .before .args .piece .now) = ltb-true _ _ (and-left (ltb (c .before .before .before .before .before .loop .i) (length (c .before .before .before .before .before .before .before .before .before .before .before .before .args .piece .now))) (leb (c .before .before .before .before .before .loop .at) (length (c .before .before .before .before .before .before .before .before .before .before .before .before .args .out .now) - c .before .before .before .before .before .before .longest-answer .result)) (c .before .before .before .before .loop-test .taken)) in
-    let at : c .before .before .before .before .before .loop .at ≤ length (c .before .before .before .before .before .before .before .before .before .before .before .before .args .out .now) - c .before .before .before .before .before .before .longest-answer .result = leb-true _ _ (and-right (ltb (c .before .before .before .before .before .loop .i) (length (c .before .before .before .before .before .before .before .before .before .before .before .before .args .piece .now))) (leb (c .before .before .before .before .before .loop .at) (length (c .before .before .before .before .before .before .before .before .before .before .before .before .args .out .now) - c .before .before .before .before .before .before .longest-answer .result)) (c .before .before .before .before .loop-test .taken)) in
-    let same = same-room (playerIn (c .before .before .before .before .before .before .before .before .before .before .before .before .args .hub .now) (c .before .before .before .before .before .before .before .before .before .before .before .before .args .region .now) (c .before .before .before .before .before .before .before .before .before .before .before .before .args .held .now) (c .before .before .before .before .before .before .before .before .before .before .before .before .args .progress)) (c .before .before .before .before .before .loop .hub) (c .before .before .before .before .before .loop .region) (c .before .before .before .before .before .loop .held) (c .before .before .before .before .before .before .before .before .before .before .before .before .args .piece .now) (c .before .before .before .before .before .before .before .before .before .before .before .before .args .out .now) (c .before .before .before .before .before .loop .out) (c .before .before .before .before .before .loop .p) (c .before .before .before .before .before .loop .i) (c .before .before .before .before .before .loop .at) l in
-    let long = c .before .before .before .before .before .before .longest-answer .ensures in
-    let room = c .before .before .before .before .before .before .before .before .before .before .before .before .pre .1 in
+    let c4 = c .before .before .before .before in
+    let c5 = c4 .before in
+    let c6 = c5 .before in
+    let c12 = c6 .before .before .before .before .before .before in
+    let l = c5 .loop .inv in
+    let i : c5 .loop .i < length (c12 .args .piece .now) =
+    ltb-true _ _ (and-left (ltb (c5 .loop .i) (length (c12 .args .piece .now)))
+    (leb (c5 .loop .at) (length (c12 .args .out .now) - c6 .longest-answer .result)) (c4 .loop-test .taken)) in
+    let at : c5 .loop .at ≤ length (c12 .args .out .now) - c6 .longest-answer .result =
+    leb-true _ _ (and-right (ltb (c5 .loop .i) (length (c12 .args .piece .now)))
+    (leb (c5 .loop .at) (length (c12 .args .out .now) - c6 .longest-answer .result)) (c4 .loop-test .taken)) in
+    let same = same-room (playerIn (c12 .args .hub .now) (c12 .args .region .now) (c12 .args .held .now) (c12 .args .progress))
+    (c5 .loop .hub) (c5 .loop .region) (c5 .loop .held) (c12 .args .piece .now) (c12 .args .out .now) (c5 .loop .out)
+    (c5 .loop .p) (c5 .loop .i) (c5 .loop .at) l in
+    let long = c6 .longest-answer .ensures in
+    let room = c12 .pre .1 in
     omega arith
 
 part-take-byte-start : tie.Need-part-take-byte-start Inv-loop μ-loop
 part-take-byte-start c =
-    let l = c .before .before .before .before .before .loop .inv in
-    let i : c .before .before .before .before .before .loop .i < length (c .before .before .before .before .before .before .before .before .before .before .before .before .args .piece .now) = ltb-true _ _ (and-left (ltb (c .before .before .before .before .before .loop .i) (length (c .before .before .before .before .before .before .before .before .before .before .before .before .args .piece .now))) (leb (c .before .before .before .before .before .loop .at) (length (c .before .before .before .before .before .before .before .before .before .before .before .before .args .out .now) - c .before .before .before .before .before .before .longest-answer .result)) (c .before .before .before .before .loop-test .taken)) in
-    let at : c .before .before .before .before .before .loop .at ≤ length (c .before .before .before .before .before .before .before .before .before .before .before .before .args .out .now) - c .before .before .before .before .before .before .longest-answer .result = leb-true _ _ (and-right (ltb (c .before .before .before .before .before .loop .i) (length (c .before .before .before .before .before .before .before .before .before .before .before .before .args .piece .now))) (leb (c .before .before .before .before .before .loop .at) (length (c .before .before .before .before .before .before .before .before .before .before .before .before .args .out .now) - c .before .before .before .before .before .before .longest-answer .result)) (c .before .before .before .before .loop-test .taken)) in
-    let same = same-room (playerIn (c .before .before .before .before .before .before .before .before .before .before .before .before .args .hub .now) (c .before .before .before .before .before .before .before .before .before .before .before .before .args .region .now) (c .before .before .before .before .before .before .before .before .before .before .before .before .args .held .now) (c .before .before .before .before .before .before .before .before .before .before .before .before .args .progress)) (c .before .before .before .before .before .loop .hub) (c .before .before .before .before .before .loop .region) (c .before .before .before .before .before .loop .held) (c .before .before .before .before .before .before .before .before .before .before .before .before .args .piece .now) (c .before .before .before .before .before .before .before .before .before .before .before .before .args .out .now) (c .before .before .before .before .before .loop .out) (c .before .before .before .before .before .loop .p) (c .before .before .before .before .before .loop .i) (c .before .before .before .before .before .loop .at) l in
-    let long = c .before .before .before .before .before .before .longest-answer .ensures in
-    let room = c .before .before .before .before .before .before .before .before .before .before .before .before .pre .1 in
+    let c4 = c .before .before .before .before in
+    let c5 = c4 .before in
+    let c6 = c5 .before in
+    let c12 = c6 .before .before .before .before .before .before in
+    let l = c5 .loop .inv in
+    let i : c5 .loop .i < length (c12 .args .piece .now) =
+    ltb-true _ _ (and-left (ltb (c5 .loop .i) (length (c12 .args .piece .now)))
+    (leb (c5 .loop .at) (length (c12 .args .out .now) - c6 .longest-answer .result)) (c4 .loop-test .taken)) in
+    let at : c5 .loop .at ≤ length (c12 .args .out .now) - c6 .longest-answer .result =
+    leb-true _ _ (and-right (ltb (c5 .loop .i) (length (c12 .args .piece .now)))
+    (leb (c5 .loop .at) (length (c12 .args .out .now) - c6 .longest-answer .result)) (c4 .loop-test .taken)) in
+    let same = same-room (playerIn (c12 .args .hub .now) (c12 .args .region .now) (c12 .args .held .now) (c12 .args .progress))
+    (c5 .loop .hub) (c5 .loop .region) (c5 .loop .held) (c12 .args .piece .now) (c12 .args .out .now) (c5 .loop .out)
+    (c5 .loop .p) (c5 .loop .i) (c5 .loop .at) l in
+    let long = c6 .longest-answer .ensures in
+    let room = c12 .pre .1 in
     omega arith
 
 part-take-byte-end : tie.Need-part-take-byte-end Inv-loop μ-loop
@@ -57,54 +83,111 @@ part-take-byte-end c = search needs
 
 take-byte-requires : tie.Need-take-byte-requires Inv-loop μ-loop
 take-byte-requires c κs =
-    let l = c .before .before .before .before .before .before .loop .inv in
-    let i : c .before .before .before .before .before .before .loop .i < length (c .before .before .before .before .before .before .before .before .before .before .before .before .before .args .piece .now) = ltb-true _ _ (and-left (ltb (c .before .before .before .before .before .before .loop .i) (length (c .before .before .before .before .before .before .before .before .before .before .before .before .before .args .piece .now))) (leb (c .before .before .before .before .before .before .loop .at) (length (c .before .before .before .before .before .before .before .before .before .before .before .before .before .args .out .now) - c .before .before .before .before .before .before .before .longest-answer .result)) (c .before .before .before .before .before .loop-test .taken)) in
-    let at : c .before .before .before .before .before .before .loop .at ≤ length (c .before .before .before .before .before .before .before .before .before .before .before .before .before .args .out .now) - c .before .before .before .before .before .before .before .longest-answer .result = leb-true _ _ (and-right (ltb (c .before .before .before .before .before .before .loop .i) (length (c .before .before .before .before .before .before .before .before .before .before .before .before .before .args .piece .now))) (leb (c .before .before .before .before .before .before .loop .at) (length (c .before .before .before .before .before .before .before .before .before .before .before .before .before .args .out .now) - c .before .before .before .before .before .before .before .longest-answer .result)) (c .before .before .before .before .before .loop-test .taken)) in
-    let same = same-room (playerIn (c .before .before .before .before .before .before .before .before .before .before .before .before .before .args .hub .now) (c .before .before .before .before .before .before .before .before .before .before .before .before .before .args .region .now) (c .before .before .before .before .before .before .before .before .before .before .before .before .before .args .held .now) (c .before .before .before .before .before .before .before .before .before .before .before .before .before .args .progress)) (c .before .before .before .before .before .before .loop .hub) (c .before .before .before .before .before .before .loop .region) (c .before .before .before .before .before .before .loop .held) (c .before .before .before .before .before .before .before .before .before .before .before .before .before .args .piece .now) (c .before .before .before .before .before .before .before .before .before .before .before .before .before .args .out .now) (c .before .before .before .before .before .before .loop .out) (c .before .before .before .before .before .before .loop .p) (c .before .before .before .before .before .before .loop .i) (c .before .before .before .before .before .before .loop .at) l in
-    let long = c .before .before .before .before .before .before .before .longest-answer .ensures in
-    let room = c .before .before .before .before .before .before .before .before .before .before .before .before .before .pre .1 in
+    let c5 = c .before .before .before .before .before in
+    let c6 = c5 .before in
+    let c7 = c6 .before in
+    let c13 = c7 .before .before .before .before .before .before in
+    let l = c6 .loop .inv in
+    let i : c6 .loop .i < length (c13 .args .piece .now) =
+    ltb-true _ _ (and-left (ltb (c6 .loop .i) (length (c13 .args .piece .now)))
+    (leb (c6 .loop .at) (length (c13 .args .out .now) - c7 .longest-answer .result)) (c5 .loop-test .taken)) in
+    let at : c6 .loop .at ≤ length (c13 .args .out .now) - c7 .longest-answer .result =
+    leb-true _ _ (and-right (ltb (c6 .loop .i) (length (c13 .args .piece .now)))
+    (leb (c6 .loop .at) (length (c13 .args .out .now) - c7 .longest-answer .result)) (c5 .loop-test .taken)) in
+    let same = same-room (playerIn (c13 .args .hub .now) (c13 .args .region .now) (c13 .args .held .now) (c13 .args .progress))
+    (c6 .loop .hub) (c6 .loop .region) (c6 .loop .held) (c13 .args .piece .now) (c13 .args .out .now) (c6 .loop .out)
+    (c6 .loop .p) (c6 .loop .i) (c6 .loop .at) l in
+    let long = c7 .longest-answer .ensures in
+    let room = c13 .pre .1 in
     (l .goes .lent, simp (length-take, length-drop) (omega arith))
 
 add-at : tie.Need-add-at Inv-loop μ-loop
 add-at c =
-    let l = c .before .before .before .before .before .before .before .before .before .before .before .before .before .before .before .before .before .loop .inv in
-    let i : c .before .before .before .before .before .before .before .before .before .before .before .before .before .before .before .before .before .loop .i < length (c .before .before .before .before .before .before .before .before .before .before .before .before .before .before .before .before .before .before .before .before .before .before .before .before .args .piece .now) = ltb-true _ _ (and-left (ltb (c .before .before .before .before .before .before .before .before .before .before .before .before .before .before .before .before .before .loop .i) (length (c .before .before .before .before .before .before .before .before .before .before .before .before .before .before .before .before .before .before .before .before .before .before .before .before .args .piece .now))) (leb (c .before .before .before .before .before .before .before .before .before .before .before .before .before .before .before .before .before .loop .at) (length (c .before .before .before .before .before .before .before .before .before .before .before .before .before .before .before .before .before .before .before .before .before .before .before .before .args .out .now) - c .before .before .before .before .before .before .before .before .before .before .before .before .before .before .before .before .before .before .longest-answer .result)) (c .before .before .before .before .before .before .before .before .before .before .before .before .before .before .before .before .loop-test .taken)) in
-    let at : c .before .before .before .before .before .before .before .before .before .before .before .before .before .before .before .before .before .loop .at ≤ length (c .before .before .before .before .before .before .before .before .before .before .before .before .before .before .before .before .before .before .before .before .before .before .before .before .args .out .now) - c .before .before .before .before .before .before .before .before .before .before .before .before .before .before .before .before .before .before .longest-answer .result = leb-true _ _ (and-right (ltb (c .before .before .before .before .before .before .before .before .before .before .before .before .before .before .before .before .before .loop .i) (length (c .before .before .before .before .before .before .before .before .before .before .before .before .before .before .before .before .before .before .before .before .before .before .before .before .args .piece .now))) (leb (c .before .before .before .before .before .before .before .before .before .before .before .before .before .before .before .before .before .loop .at) (length (c .before .before .before .before .before .before .before .before .before .before .before .before .before .before .before .before .before .before .before .before .before .before .before .before .args .out .now) - c .before .before .before .before .before .before .before .before .before .before .before .before .before .before .before .before .before .before .longest-answer .result)) (c .before .before .before .before .before .before .before .before .before .before .before .before .before .before .before .before .loop-test .taken)) in
-    let same = same-room (playerIn (c .before .before .before .before .before .before .before .before .before .before .before .before .before .before .before .before .before .before .before .before .before .before .before .before .args .hub .now) (c .before .before .before .before .before .before .before .before .before .before .before .before .before .before .before .before .before .before .before .before .before .before .before .before .args .region .now) (c .before .before .before .before .before .before .before .before .before .before .before .before .before .before .before .before .before .before .before .before .before .before .before .before .args .held .now) (c .before .before .before .before .before .before .before .before .before .before .before .before .before .before .before .before .before .before .before .before .before .before .before .before .args .progress)) (c .before .before .before .before .before .before .before .before .before .before .before .before .before .before .before .before .before .loop .hub) (c .before .before .before .before .before .before .before .before .before .before .before .before .before .before .before .before .before .loop .region) (c .before .before .before .before .before .before .before .before .before .before .before .before .before .before .before .before .before .loop .held) (c .before .before .before .before .before .before .before .before .before .before .before .before .before .before .before .before .before .before .before .before .before .before .before .before .args .piece .now) (c .before .before .before .before .before .before .before .before .before .before .before .before .before .before .before .before .before .before .before .before .before .before .before .before .args .out .now) (c .before .before .before .before .before .before .before .before .before .before .before .before .before .before .before .before .before .loop .out) (c .before .before .before .before .before .before .before .before .before .before .before .before .before .before .before .before .before .loop .p) (c .before .before .before .before .before .before .before .before .before .before .before .before .before .before .before .before .before .loop .i) (c .before .before .before .before .before .before .before .before .before .before .before .before .before .before .before .before .before .loop .at) l in
-    let long = c .before .before .before .before .before .before .before .before .before .before .before .before .before .before .before .before .before .before .longest-answer .ensures in
-    let room = c .before .before .before .before .before .before .before .before .before .before .before .before .before .before .before .before .before .before .before .before .before .before .before .before .pre .1 in
-    let part : length (take (length (c .before .before .before .before .before .before .before .before .before .before .before .before .before .before .before .before .before .loop .out) - c .before .before .before .before .before .before .before .before .before .before .before .before .before .before .before .before .before .loop .at) (drop (c .before .before .before .before .before .before .before .before .before .before .before .before .before .before .before .before .before .loop .at) (c .before .before .before .before .before .before .before .before .before .before .before .before .before .before .before .before .before .loop .out))) ≤ length (c .before .before .before .before .before .before .before .before .before .before .before .before .before .before .before .before .before .loop .out) - c .before .before .before .before .before .before .before .before .before .before .before .before .before .before .before .before .before .loop .at = simp (length-take, length-drop) (omega arith) in
-    omega (arith, part, c .before .before .before .before .before .before .before .before .before .before .take-byte .ensures .written .fits, c .before .before .before .before .before .before .before .before .before .before .before .before .before .before .before .before .before .before .before .before .before .before .before .before .good .1 .1 .1 .1 .1 .0)
+    let c10 = c .before .before .before .before .before .before .before .before .before .before in
+    let c16 = c10 .before .before .before .before .before .before in
+    let c17 = c16 .before in
+    let c18 = c17 .before in
+    let c24 = c18 .before .before .before .before .before .before in
+    let l = c17 .loop .inv in
+    let i : c17 .loop .i < length (c24 .args .piece .now) =
+    ltb-true _ _ (and-left (ltb (c17 .loop .i) (length (c24 .args .piece .now)))
+    (leb (c17 .loop .at) (length (c24 .args .out .now) - c18 .longest-answer .result)) (c16 .loop-test .taken)) in
+    let at : c17 .loop .at ≤ length (c24 .args .out .now) - c18 .longest-answer .result =
+    leb-true _ _ (and-right (ltb (c17 .loop .i) (length (c24 .args .piece .now)))
+    (leb (c17 .loop .at) (length (c24 .args .out .now) - c18 .longest-answer .result)) (c16 .loop-test .taken)) in
+    let same = same-room (playerIn (c24 .args .hub .now) (c24 .args .region .now) (c24 .args .held .now) (c24 .args .progress))
+    (c17 .loop .hub) (c17 .loop .region) (c17 .loop .held) (c24 .args .piece .now) (c24 .args .out .now) (c17 .loop .out)
+    (c17 .loop .p) (c17 .loop .i) (c17 .loop .at) l in
+    let long = c18 .longest-answer .ensures in
+    let room = c24 .pre .1 in
+    let part : length (take (length (c17 .loop .out) - c17 .loop .at) (drop (c17 .loop .at) (c17 .loop .out))) ≤ length
+    (c17 .loop .out) - c17 .loop .at = simp (length-take, length-drop) (omega arith) in
+    omega (arith, part, c10 .take-byte .ensures .written .fits, c24 .good .1 .1 .1 .1 .1 .0)
 
 add-i : tie.Need-add-i Inv-loop μ-loop
 add-i c =
-    let l = c .before .before .before .before .before .before .before .before .before .before .before .before .before .before .before .before .before .loop .inv in
-    let i : c .before .before .before .before .before .before .before .before .before .before .before .before .before .before .before .before .before .loop .i < length (c .before .before .before .before .before .before .before .before .before .before .before .before .before .before .before .before .before .before .before .before .before .before .before .before .args .piece .now) = ltb-true _ _ (and-left (ltb (c .before .before .before .before .before .before .before .before .before .before .before .before .before .before .before .before .before .loop .i) (length (c .before .before .before .before .before .before .before .before .before .before .before .before .before .before .before .before .before .before .before .before .before .before .before .before .args .piece .now))) (leb (c .before .before .before .before .before .before .before .before .before .before .before .before .before .before .before .before .before .loop .at) (length (c .before .before .before .before .before .before .before .before .before .before .before .before .before .before .before .before .before .before .before .before .before .before .before .before .args .out .now) - c .before .before .before .before .before .before .before .before .before .before .before .before .before .before .before .before .before .before .longest-answer .result)) (c .before .before .before .before .before .before .before .before .before .before .before .before .before .before .before .before .loop-test .taken)) in
-    let at : c .before .before .before .before .before .before .before .before .before .before .before .before .before .before .before .before .before .loop .at ≤ length (c .before .before .before .before .before .before .before .before .before .before .before .before .before .before .before .before .before .before .before .before .before .before .before .before .args .out .now) - c .before .before .before .before .before .before .before .before .before .before .before .before .before .before .before .before .before .before .longest-answer .result = leb-true _ _ (and-right (ltb (c .before .before .before .before .before .before .before .before .before .before .before .before .before .before .before .before .before .loop .i) (length (c .before .before .before .before .before .before .before .before .before .before .before .before .before .before .before .before .before .before .before .before .before .before .before .before .args .piece .now))) (leb (c .before .before .before .before .before .before .before .before .before .before .before .before .before .before .before .before .before .loop .at) (length (c .before .before .before .before .before .before .before .before .before .before .before .before .before .before .before .before .before .before .before .before .before .before .before .before .args .out .now) - c .before .before .before .before .before .before .before .before .before .before .before .before .before .before .before .before .before .before .longest-answer .result)) (c .before .before .before .before .before .before .before .before .before .before .before .before .before .before .before .before .loop-test .taken)) in
-    let same = same-room (playerIn (c .before .before .before .before .before .before .before .before .before .before .before .before .before .before .before .before .before .before .before .before .before .before .before .before .args .hub .now) (c .before .before .before .before .before .before .before .before .before .before .before .before .before .before .before .before .before .before .before .before .before .before .before .before .args .region .now) (c .before .before .before .before .before .before .before .before .before .before .before .before .before .before .before .before .before .before .before .before .before .before .before .before .args .held .now) (c .before .before .before .before .before .before .before .before .before .before .before .before .before .before .before .before .before .before .before .before .before .before .before .before .args .progress)) (c .before .before .before .before .before .before .before .before .before .before .before .before .before .before .before .before .before .loop .hub) (c .before .before .before .before .before .before .before .before .before .before .before .before .before .before .before .before .before .loop .region) (c .before .before .before .before .before .before .before .before .before .before .before .before .before .before .before .before .before .loop .held) (c .before .before .before .before .before .before .before .before .before .before .before .before .before .before .before .before .before .before .before .before .before .before .before .before .args .piece .now) (c .before .before .before .before .before .before .before .before .before .before .before .before .before .before .before .before .before .before .before .before .before .before .before .before .args .out .now) (c .before .before .before .before .before .before .before .before .before .before .before .before .before .before .before .before .before .loop .out) (c .before .before .before .before .before .before .before .before .before .before .before .before .before .before .before .before .before .loop .p) (c .before .before .before .before .before .before .before .before .before .before .before .before .before .before .before .before .before .loop .i) (c .before .before .before .before .before .before .before .before .before .before .before .before .before .before .before .before .before .loop .at) l in
-    let long = c .before .before .before .before .before .before .before .before .before .before .before .before .before .before .before .before .before .before .longest-answer .ensures in
-    let room = c .before .before .before .before .before .before .before .before .before .before .before .before .before .before .before .before .before .before .before .before .before .before .before .before .pre .1 in
-    omega (arith, c .before .before .before .before .before .before .before .before .before .before .before .before .before .before .before .before .before .before .before .before .before .before .before .before .good .1 .1 .1 .1 .0 .0)
+    let c10 = c .before .before .before .before .before .before .before .before .before .before in
+    let c16 = c10 .before .before .before .before .before .before in
+    let c17 = c16 .before in
+    let c18 = c17 .before in
+    let c24 = c18 .before .before .before .before .before .before in
+    let l = c17 .loop .inv in
+    let i : c17 .loop .i < length (c24 .args .piece .now) =
+    ltb-true _ _ (and-left (ltb (c17 .loop .i) (length (c24 .args .piece .now)))
+    (leb (c17 .loop .at) (length (c24 .args .out .now) - c18 .longest-answer .result)) (c16 .loop-test .taken)) in
+    let at : c17 .loop .at ≤ length (c24 .args .out .now) - c18 .longest-answer .result =
+    leb-true _ _ (and-right (ltb (c17 .loop .i) (length (c24 .args .piece .now)))
+    (leb (c17 .loop .at) (length (c24 .args .out .now) - c18 .longest-answer .result)) (c16 .loop-test .taken)) in
+    let same = same-room (playerIn (c24 .args .hub .now) (c24 .args .region .now) (c24 .args .held .now) (c24 .args .progress))
+    (c17 .loop .hub) (c17 .loop .region) (c17 .loop .held) (c24 .args .piece .now) (c24 .args .out .now) (c17 .loop .out)
+    (c17 .loop .p) (c17 .loop .i) (c17 .loop .at) l in
+    let long = c18 .longest-answer .ensures in
+    let room = c24 .pre .1 in
+    omega (arith, c24 .good .1 .1 .1 .1 .0 .0)
 
 loop-less : tie.Need-loop-less Inv-loop μ-loop
 loop-less c =
-    let l = c .before .before .before .before .before .before .before .before .before .before .before .before .before .before .before .before .before .loop .inv in
-    let i : c .before .before .before .before .before .before .before .before .before .before .before .before .before .before .before .before .before .loop .i < length (c .before .before .before .before .before .before .before .before .before .before .before .before .before .before .before .before .before .before .before .before .before .before .before .before .args .piece .now) = ltb-true _ _ (and-left (ltb (c .before .before .before .before .before .before .before .before .before .before .before .before .before .before .before .before .before .loop .i) (length (c .before .before .before .before .before .before .before .before .before .before .before .before .before .before .before .before .before .before .before .before .before .before .before .before .args .piece .now))) (leb (c .before .before .before .before .before .before .before .before .before .before .before .before .before .before .before .before .before .loop .at) (length (c .before .before .before .before .before .before .before .before .before .before .before .before .before .before .before .before .before .before .before .before .before .before .before .before .args .out .now) - c .before .before .before .before .before .before .before .before .before .before .before .before .before .before .before .before .before .before .longest-answer .result)) (c .before .before .before .before .before .before .before .before .before .before .before .before .before .before .before .before .loop-test .taken)) in
-    let at : c .before .before .before .before .before .before .before .before .before .before .before .before .before .before .before .before .before .loop .at ≤ length (c .before .before .before .before .before .before .before .before .before .before .before .before .before .before .before .before .before .before .before .before .before .before .before .before .args .out .now) - c .before .before .before .before .before .before .before .before .before .before .before .before .before .before .before .before .before .before .longest-answer .result = leb-true _ _ (and-right (ltb (c .before .before .before .before .before .before .before .before .before .before .before .before .before .before .before .before .before .loop .i) (length (c .before .before .before .before .before .before .before .before .before .before .before .before .before .before .before .before .before .before .before .before .before .before .before .before .args .piece .now))) (leb (c .before .before .before .before .before .before .before .before .before .before .before .before .before .before .before .before .before .loop .at) (length (c .before .before .before .before .before .before .before .before .before .before .before .before .before .before .before .before .before .before .before .before .before .before .before .before .args .out .now) - c .before .before .before .before .before .before .before .before .before .before .before .before .before .before .before .before .before .before .longest-answer .result)) (c .before .before .before .before .before .before .before .before .before .before .before .before .before .before .before .before .loop-test .taken)) in
-    let same = same-room (playerIn (c .before .before .before .before .before .before .before .before .before .before .before .before .before .before .before .before .before .before .before .before .before .before .before .before .args .hub .now) (c .before .before .before .before .before .before .before .before .before .before .before .before .before .before .before .before .before .before .before .before .before .before .before .before .args .region .now) (c .before .before .before .before .before .before .before .before .before .before .before .before .before .before .before .before .before .before .before .before .before .before .before .before .args .held .now) (c .before .before .before .before .before .before .before .before .before .before .before .before .before .before .before .before .before .before .before .before .before .before .before .before .args .progress)) (c .before .before .before .before .before .before .before .before .before .before .before .before .before .before .before .before .before .loop .hub) (c .before .before .before .before .before .before .before .before .before .before .before .before .before .before .before .before .before .loop .region) (c .before .before .before .before .before .before .before .before .before .before .before .before .before .before .before .before .before .loop .held) (c .before .before .before .before .before .before .before .before .before .before .before .before .before .before .before .before .before .before .before .before .before .before .before .before .args .piece .now) (c .before .before .before .before .before .before .before .before .before .before .before .before .before .before .before .before .before .before .before .before .before .before .before .before .args .out .now) (c .before .before .before .before .before .before .before .before .before .before .before .before .before .before .before .before .before .loop .out) (c .before .before .before .before .before .before .before .before .before .before .before .before .before .before .before .before .before .loop .p) (c .before .before .before .before .before .before .before .before .before .before .before .before .before .before .before .before .before .loop .i) (c .before .before .before .before .before .before .before .before .before .before .before .before .before .before .before .before .before .loop .at) l in
-    let long = c .before .before .before .before .before .before .before .before .before .before .before .before .before .before .before .before .before .before .longest-answer .ensures in
-    let room = c .before .before .before .before .before .before .before .before .before .before .before .before .before .before .before .before .before .before .before .before .before .before .before .before .pre .1 in
+    let c10 = c .before .before .before .before .before .before .before .before .before .before in
+    let c16 = c10 .before .before .before .before .before .before in
+    let c17 = c16 .before in
+    let c18 = c17 .before in
+    let c24 = c18 .before .before .before .before .before .before in
+    let l = c17 .loop .inv in
+    let i : c17 .loop .i < length (c24 .args .piece .now) =
+    ltb-true _ _ (and-left (ltb (c17 .loop .i) (length (c24 .args .piece .now)))
+    (leb (c17 .loop .at) (length (c24 .args .out .now) - c18 .longest-answer .result)) (c16 .loop-test .taken)) in
+    let at : c17 .loop .at ≤ length (c24 .args .out .now) - c18 .longest-answer .result =
+    leb-true _ _ (and-right (ltb (c17 .loop .i) (length (c24 .args .piece .now)))
+    (leb (c17 .loop .at) (length (c24 .args .out .now) - c18 .longest-answer .result)) (c16 .loop-test .taken)) in
+    let same = same-room (playerIn (c24 .args .hub .now) (c24 .args .region .now) (c24 .args .held .now) (c24 .args .progress))
+    (c17 .loop .hub) (c17 .loop .region) (c17 .loop .held) (c24 .args .piece .now) (c24 .args .out .now) (c17 .loop .out)
+    (c17 .loop .p) (c17 .loop .i) (c17 .loop .at) l in
+    let long = c18 .longest-answer .ensures in
+    let room = c24 .pre .1 in
     omega arith
 
 loop-again : tie.Need-loop-again Inv-loop μ-loop
 loop-again c =
-    let l = c .before .before .before .before .before .before .before .before .before .before .before .before .before .before .before .before .before .loop .inv in
-    let i : c .before .before .before .before .before .before .before .before .before .before .before .before .before .before .before .before .before .loop .i < length (c .before .before .before .before .before .before .before .before .before .before .before .before .before .before .before .before .before .before .before .before .before .before .before .before .args .piece .now) = ltb-true _ _ (and-left (ltb (c .before .before .before .before .before .before .before .before .before .before .before .before .before .before .before .before .before .loop .i) (length (c .before .before .before .before .before .before .before .before .before .before .before .before .before .before .before .before .before .before .before .before .before .before .before .before .args .piece .now))) (leb (c .before .before .before .before .before .before .before .before .before .before .before .before .before .before .before .before .before .loop .at) (length (c .before .before .before .before .before .before .before .before .before .before .before .before .before .before .before .before .before .before .before .before .before .before .before .before .args .out .now) - c .before .before .before .before .before .before .before .before .before .before .before .before .before .before .before .before .before .before .longest-answer .result)) (c .before .before .before .before .before .before .before .before .before .before .before .before .before .before .before .before .loop-test .taken)) in
-    let at : c .before .before .before .before .before .before .before .before .before .before .before .before .before .before .before .before .before .loop .at ≤ length (c .before .before .before .before .before .before .before .before .before .before .before .before .before .before .before .before .before .before .before .before .before .before .before .before .args .out .now) - c .before .before .before .before .before .before .before .before .before .before .before .before .before .before .before .before .before .before .longest-answer .result = leb-true _ _ (and-right (ltb (c .before .before .before .before .before .before .before .before .before .before .before .before .before .before .before .before .before .loop .i) (length (c .before .before .before .before .before .before .before .before .before .before .before .before .before .before .before .before .before .before .before .before .before .before .before .before .args .piece .now))) (leb (c .before .before .before .before .before .before .before .before .before .before .before .before .before .before .before .before .before .loop .at) (length (c .before .before .before .before .before .before .before .before .before .before .before .before .before .before .before .before .before .before .before .before .before .before .before .before .args .out .now) - c .before .before .before .before .before .before .before .before .before .before .before .before .before .before .before .before .before .before .longest-answer .result)) (c .before .before .before .before .before .before .before .before .before .before .before .before .before .before .before .before .loop-test .taken)) in
-    let same = same-room (playerIn (c .before .before .before .before .before .before .before .before .before .before .before .before .before .before .before .before .before .before .before .before .before .before .before .before .args .hub .now) (c .before .before .before .before .before .before .before .before .before .before .before .before .before .before .before .before .before .before .before .before .before .before .before .before .args .region .now) (c .before .before .before .before .before .before .before .before .before .before .before .before .before .before .before .before .before .before .before .before .before .before .before .before .args .held .now) (c .before .before .before .before .before .before .before .before .before .before .before .before .before .before .before .before .before .before .before .before .before .before .before .before .args .progress)) (c .before .before .before .before .before .before .before .before .before .before .before .before .before .before .before .before .before .loop .hub) (c .before .before .before .before .before .before .before .before .before .before .before .before .before .before .before .before .before .loop .region) (c .before .before .before .before .before .before .before .before .before .before .before .before .before .before .before .before .before .loop .held) (c .before .before .before .before .before .before .before .before .before .before .before .before .before .before .before .before .before .before .before .before .before .before .before .before .args .piece .now) (c .before .before .before .before .before .before .before .before .before .before .before .before .before .before .before .before .before .before .before .before .before .before .before .before .args .out .now) (c .before .before .before .before .before .before .before .before .before .before .before .before .before .before .before .before .before .loop .out) (c .before .before .before .before .before .before .before .before .before .before .before .before .before .before .before .before .before .loop .p) (c .before .before .before .before .before .before .before .before .before .before .before .before .before .before .before .before .before .loop .i) (c .before .before .before .before .before .before .before .before .before .before .before .before .before .before .before .before .before .loop .at) l in
-    let long = c .before .before .before .before .before .before .before .before .before .before .before .before .before .before .before .before .before .before .longest-answer .ensures in
-    let room = c .before .before .before .before .before .before .before .before .before .before .before .before .before .before .before .before .before .before .before .before .before .before .before .before .pre .1 in
-    fed-more (playerIn (c .before .before .before .before .before .before .before .before .before .before .before .before .before .before .before .before .before .before .before .before .before .before .before .before .args .hub .now) (c .before .before .before .before .before .before .before .before .before .before .before .before .before .before .before .before .before .before .before .before .before .before .before .before .args .region .now) (c .before .before .before .before .before .before .before .before .before .before .before .before .before .before .before .before .before .before .before .before .before .before .before .before .args .held .now) (c .before .before .before .before .before .before .before .before .before .before .before .before .before .before .before .before .before .before .before .before .before .before .before .before .args .progress)) (c .before .before .before .before .before .before .before .before .before .before .before .before .before .before .before .before .before .loop .hub) (c .before .before .before .before .before .before .before .before .before .before .before .before .before .before .before .before .before .loop .region) (c .before .before .before .before .before .before .before .before .before .before .before .before .before .before .before .before .before .loop .held) (c .before .before .before .before .before .before .before .before .before .before .before .before .before .before .before .before .before .before .before .before .before .before .before .before .args .piece .now) (c .before .before .before .before .before .before .before .before .before .before .before .before .before .before .before .before .before .before .before .before .before .before .before .before .args .out .now) (c .before .before .before .before .before .before .before .before .before .before .before .before .before .before .before .before .before .loop .out) (c .before .before .before .before .before .before .before .before .before .before .before .before .before .before .before .before .before .loop .p) (c .before .before .before .before .before .before .before .before .before .before .before .before .before .before .before .before .before .loop .i) (c .before .before .before .before .before .before .before .before .before .before .before .before .before .before .before .before .before .loop .at) l _ _ _ _ _ _ i (omega arith) (c .before .before .before .before .before .before .before .before .before .before .take-byte .ensures)
+    let c10 = c .before .before .before .before .before .before .before .before .before .before in
+    let c16 = c10 .before .before .before .before .before .before in
+    let c17 = c16 .before in
+    let c18 = c17 .before in
+    let c24 = c18 .before .before .before .before .before .before in
+    let l = c17 .loop .inv in
+    let i : c17 .loop .i < length (c24 .args .piece .now) =
+    ltb-true _ _ (and-left (ltb (c17 .loop .i) (length (c24 .args .piece .now)))
+    (leb (c17 .loop .at) (length (c24 .args .out .now) - c18 .longest-answer .result)) (c16 .loop-test .taken)) in
+    let at : c17 .loop .at ≤ length (c24 .args .out .now) - c18 .longest-answer .result =
+    leb-true _ _ (and-right (ltb (c17 .loop .i) (length (c24 .args .piece .now)))
+    (leb (c17 .loop .at) (length (c24 .args .out .now) - c18 .longest-answer .result)) (c16 .loop-test .taken)) in
+    let same = same-room (playerIn (c24 .args .hub .now) (c24 .args .region .now) (c24 .args .held .now) (c24 .args .progress))
+    (c17 .loop .hub) (c17 .loop .region) (c17 .loop .held) (c24 .args .piece .now) (c24 .args .out .now) (c17 .loop .out)
+    (c17 .loop .p) (c17 .loop .i) (c17 .loop .at) l in
+    let long = c18 .longest-answer .ensures in
+    let room = c24 .pre .1 in
+    fed-more (playerIn (c24 .args .hub .now) (c24 .args .region .now) (c24 .args .held .now) (c24 .args .progress))
+    (c17 .loop .hub) (c17 .loop .region) (c17 .loop .held) (c24 .args .piece .now) (c24 .args .out .now) (c17 .loop .out)
+    (c17 .loop .p) (c17 .loop .i) (c17 .loop .at) l _ _ _ _ _ _ i (omega arith) (c10 .take-byte .ensures)
 
 same-length : tie.Need-same-length Inv-loop μ-loop
 same-length c = c .before .loop .inv .goes .lent .hubLength ∙ sym (c .before .before .before .before .before .before .before .before .pre .0 .hubLength)
@@ -116,12 +199,25 @@ same-length-3 : tie.Need-same-length-3 Inv-loop μ-loop
 same-length-3 c = c .before .loop .inv .goes .lent .heldLength ∙ sym (c .before .before .before .before .before .before .before .before .pre .0 .heldLength)
 
 same-length-4 : tie.Need-same-length-4 Inv-loop μ-loop
-same-length-4 c = same-room (playerIn (c .before .before .before .before .before .before .before .before .args .hub .now) (c .before .before .before .before .before .before .before .before .args .region .now) (c .before .before .before .before .before .before .before .before .args .held .now) (c .before .before .before .before .before .before .before .before .args .progress)) (c .before .loop .hub) (c .before .loop .region) (c .before .loop .held) (c .before .before .before .before .before .before .before .before .args .piece .now) (c .before .before .before .before .before .before .before .before .args .out .now) (c .before .loop .out) (c .before .loop .p) (c .before .loop .i) (c .before .loop .at) (c .before .loop .inv)
+same-length-4 c =
+    let c8 = c .before .before .before .before .before .before .before .before in
+    same-room (playerIn (c8 .args .hub .now) (c8 .args .region .now) (c8 .args .held .now) (c8 .args .progress))
+    (c .before .loop .hub) (c .before .loop .region) (c .before .loop .held) (c8 .args .piece .now) (c8 .args .out .now)
+    (c .before .loop .out) (c .before .loop .p) (c .before .loop .i) (c .before .loop .at) (c .before .loop .inv)
 
 returns : tie.Need-returns Inv-loop μ-loop
 returns c =
-    let last : length (c .before .before .before .before .before .before .before .before .args .out .now) - c .before .before .longest-answer .result ≡ length (c .before .before .before .before .before .before .before .before .args .out .now) - longest = rw (c .before .before .longest-answer .ensures) in
-    record { number = refl; taken = fed-end (playerIn (c .before .before .before .before .before .before .before .before .args .hub .now) (c .before .before .before .before .before .before .before .before .args .region .now) (c .before .before .before .before .before .before .before .before .args .held .now) (c .before .before .before .before .before .before .before .before .args .progress)) (c .before .loop .hub) (c .before .loop .region) (c .before .loop .held) (c .before .before .before .before .before .before .before .before .args .piece .now) (c .before .before .before .before .before .before .before .before .args .out .now) (c .before .loop .out) (c .before .loop .p) (c .before .loop .i) (c .before .loop .at) (c .before .loop .inv) _ last (c .loop-test .left); goes = c .before .loop .inv .goes }
+    let c8 = c .before .before .before .before .before .before .before .before in
+    let last : length (c8 .args .out .now) - c .before .before .longest-answer .result ≡ length (c8 .args .out .now) - longest =
+    rw (c .before .before .longest-answer .ensures) in
+    record {
+      number = refl;
+      taken = fed-end (playerIn (c8 .args .hub .now) (c8 .args .region .now) (c8 .args .held .now)
+          (c8 .args .progress)) (c .before .loop .hub) (c .before .loop .region) (c .before .loop .held) (c8 .args .piece .now)
+          (c8 .args .out .now) (c .before .loop .out) (c .before .loop .p) (c .before .loop .i) (c .before .loop .at)
+          (c .before .loop .inv) _ last (c .loop-test .left);
+      goes = c .before .loop .inv .goes;
+    }
 
 pub feed-lent-spec : {M : Type 1} → statement M
 feed-lent-spec =

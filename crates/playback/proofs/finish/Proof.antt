@@ -22,17 +22,33 @@ reported-requires c κs = search needs
 returns : tie.Need-returns
 returns c =
     rw (c .reported .ensures)
-    (record { number = c .before .before .refusal .ensures .0; progress = refl; taken = refl; written = rw (ne-eqb _ _ (c .before .if1 .taken)) (record { bytes = sym (nothing-over _); count = refl; fits = omega arith }) })
+    (record {
+      number = c .before .before .refusal .ensures .0;
+      progress = refl;
+      taken = refl;
+      written = rw (ne-eqb _ _ (c .before .if1 .taken))
+          (record { bytes = sym (nothing-over _); count = refl; fits = omega arith });
+    })
 
 reported-requires-2 : tie.Need-reported-requires-2
 reported-requires-2 c κs = search needs
 
 returns-2 : tie.Need-returns-2
 returns-2 c =
-    let a = c .before .before .before .before .before .before .before .before .before .before .args in
-    let e : inside (playerIn (a .hub .now) (a .region .now) (a .held .now) (a .progress)) ≡ false = inside-is (a .hub .now) (a .region .now) (a .held .now) (a .progress) (c .before .before .before .before .before .refusal .ensures .1 (c .before .before .before .before .if1 .left) .0) ∙ not-true _ (c .before .if2 .taken) in
+    let c4 = c .before .before .before .before in
+    let c5 = c4 .before in
+    let c10 = c5 .before .before .before .before .before in
+    let a = c10 .args in
+    let e : inside (playerIn (a .hub .now) (a .region .now) (a .held .now) (a .progress)) ≡ false = inside-is (a .hub .now)
+    (a .region .now) (a .held .now) (a .progress) (c5 .refusal .ensures .1 (c4 .if1 .left) .0)
+    ∙ not-true _ (c .before .if2 .taken) in
     rw (c .reported2 .ensures)
-    (record { number = sym (c .before .before .before .before .if1 .left) ∙ c .before .before .before .before .before .refusal .ensures .0; progress = refl; taken = refl; written = rw e (record { bytes = sym (nothing-over _); count = refl; fits = omega arith }) })
+    (record {
+      number = sym (c4 .if1 .left) ∙ c5 .refusal .ensures .0;
+      progress = refl;
+      taken = refl;
+      written = rw e (record { bytes = sym (nothing-over _); count = refl; fits = omega arith });
+    })
 
 slice-write-out : tie.Need-slice-write-out
 slice-write-out c = omega (arith, c .before .before .before .before .refusal .ensures .1 (c .before .before .before .if1 .left) .1)
@@ -45,12 +61,21 @@ same-length c = search needs
 
 returns-3 : tie.Need-returns-3
 returns-3 c =
-    let a = c .before .before .before .before .before .before .before .before .before .before .args in
-    let r = c .before .before .before .before .before .refusal .ensures .1 (c .before .before .before .before .if1 .left) in
+    let c4 = c .before .before .before .before in
+    let c5 = c4 .before in
+    let c10 = c5 .before .before .before .before .before in
+    let a = c10 .args in
+    let r = c5 .refusal .ensures .1 (c4 .if1 .left) in
     let some : 1 ≤ length (a .out .now) = omega (arith, r .1) in
-    let e : inside (playerIn (a .hub .now) (a .region .now) (a .held .now) (a .progress)) ≡ true = inside-is (a .hub .now) (a .region .now) (a .held .now) (a .progress) (r .0) ∙ not-false _ (c .before .if2 .left) in
+    let e : inside (playerIn (a .hub .now) (a .region .now) (a .held .now) (a .progress)) ≡ true = inside-is (a .hub .now)
+    (a .region .now) (a .held .now) (a .progress) (r .0) ∙ not-false _ (c .before .if2 .left) in
     rw (c .reported3 .ensures)
-    (record { number = sym (c .before .before .before .before .if1 .left) ∙ c .before .before .before .before .before .refusal .ensures .0; progress = refl; taken = refl; written = rw e (record { bytes = one-over (a .out .now) 0x84 some; count = refl; fits = some }) })
+    (record {
+      number = sym (c4 .if1 .left) ∙ c5 .refusal .ensures .0;
+      progress = refl;
+      taken = refl;
+      written = rw e (record { bytes = one-over (a .out .now) 0x84 some; count = refl; fits = some });
+    })
 
 pub finish-spec : {M : Type 1} → statement M
 finish-spec =

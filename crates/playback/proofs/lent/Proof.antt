@@ -16,7 +16,10 @@ hub-words-requires c κs = search needs
 
 returns : tie.Need-returns
 unfolding isLent every
-returns c = rw (c .before .before .before .hub-words .ensures, c .before .before .before .before .before .max-peers .ensures, c .before .before .before .before .max-vectors .ensures)
+returns c =
+    let c4 = c .before .before .before .before in
+    let c5 = c4 .before in
+    rw (c .before .before .before .hub-words .ensures, c5 .max-peers .ensures, c4 .max-vectors .ensures)
 
 pub lent-spec : {M : Type 1} → statement M
 lent-spec = tie.close (tie.spec max-peers-requires max-vectors-requires hub-words-requires returns)

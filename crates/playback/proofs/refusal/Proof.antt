@@ -27,16 +27,20 @@ longest-answer-requires c κs = search needs
 returns-2 : tie.Need-returns-2
 returns-2 c =
     let a = c .before .before .before .before .before .before .before .args in
-    let e : isLent (a .hub .now) (a .region .now) (a .held .now) (a .p) ≡ true = sym (c .before .before .before .lent .ensures) ∙ not-false _ (c .before .before .if1 .left) in
+    let e : isLent (a .hub .now) (a .region .now) (a .held .now) (a .p) ≡ true = sym (c .before .before .before .lent .ensures)
+    ∙ not-false _ (c .before .before .if1 .left) in
     let l : ltb (a .room) longest ≡ true = lt-ltb _ _ (rw (c .before .longest-answer .ensures) at (c .if2 .taken)) in
     (no-room (a .hub .now) (a .region .now) (a .held .now) (a .p) (a .room) e l, λ z. absurd (omega arith))
 
 returns-3 : tie.Need-returns-3
 returns-3 c =
     let a = c .before .before .before .before .before .before .before .args in
-    let e : isLent (a .hub .now) (a .region .now) (a .held .now) (a .p) ≡ true = sym (c .before .before .before .lent .ensures) ∙ not-false _ (c .before .before .if1 .left) in
-    let l : longest ≤ a .room = rw (c .before .longest-answer .ensures) at (c .if2 .left) in
-    (no-refusal (a .hub .now) (a .region .now) (a .held .now) (a .p) (a .room) e (le-ltb _ _ l), λ z. (lent-facts (a .hub .now) (a .region .now) (a .held .now) (a .p) e, l))
+    let e : isLent (a .hub .now) (a .region .now) (a .held .now) (a .p) ≡ true = sym (c .before .before .before .lent .ensures)
+    ∙ not-false _ (c .before .before .if1 .left) in
+    let l : longest ≤ a .room = rw (c .before .longest-answer .ensures) at (c .if2 .left) in (
+      no-refusal (a .hub .now) (a .region .now) (a .held .now) (a .p) (a .room) e (le-ltb _ _ l),
+      λ z. (lent-facts (a .hub .now) (a .region .now) (a .held .now) (a .p) e, l),
+    )
 
 pub refusal-spec : {M : Type 1} → statement M
 refusal-spec =

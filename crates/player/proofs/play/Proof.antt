@@ -68,7 +68,10 @@ returns c = search needs
 
 -- src/main.rt:80:9
 add-at : tie.Need-add-at Inv-loop μ-loop
-add-at c = omega (arith, c .before .before .before .before .before .before .before .before .before .before .before .before .feed-once .ensures, simp (length-take, length-drop) at (c .before .before .before .before .before .before .before .before .before .before .before .before .feed-once .ensures), c .before .before .before .before .before .before .before .before .before .before .before .before .before .before .before .before .before .before .before .before .before .before .before .before .before .good .1 .1 .1 .1 .0 .0)
+add-at c =
+    let c12 = c .before .before .before .before .before .before .before .before .before .before .before .before in
+    let c25 = c12 .before .before .before .before .before .before .before .before .before .before .before .before .before in
+    omega (arith, c12 .feed-once .ensures, simp (length-take, length-drop) at (c12 .feed-once .ensures), c25 .good .1 .1 .1 .1 .0 .0)
 
 -- src/main.rt:74:5
 loop-less : tie.Need-loop-less Inv-loop μ-loop

@@ -33,8 +33,16 @@ returns-5 c = (rw (c .before .match .keys5), search needs)
 
 returns-6 : tie.Need-returns-6
 unfolding registerAt registerValue
-returns-6 c =
-    (simp (ne-eqb _ _ (c .match .rest .1), ne-eqb _ _ (c .match .rest .0 .1), ne-eqb _ _ (c .match .rest .0 .0 .1), ne-eqb _ _ (c .match .rest .0 .0 .0 .1), ne-eqb _ _ (c .match .rest .0 .0 .0 .0 .1)), search needs)
+returns-6 c = (
+  simp (
+    ne-eqb _ _ (c .match .rest .1),
+    ne-eqb _ _ (c .match .rest .0 .1),
+    ne-eqb _ _ (c .match .rest .0 .0 .1),
+    ne-eqb _ _ (c .match .rest .0 .0 .0 .1),
+    ne-eqb _ _ (c .match .rest .0 .0 .0 .0 .1),
+  ),
+  search needs,
+)
 
 pub value-spec : {M : Type 1} → statement M
 value-spec =

@@ -76,7 +76,8 @@ module _ {M : Type 1} (𝓤 : URA M) (H : Heap 𝓤) (A : Atoms 𝓤) (at-mem : 
       → ent 𝓤 (ensured 𝓤 H A answer.ended (answer.clauses 𝓤 H A at-mem run) tt (h, tt) tt r) (fact 𝓤 (r ≡ opens h))
   answer-said h r = exE 𝓤 _ (λ ws. snd∗ 𝓤 (sem 𝓤 H A (lasts answer.ended tt (h, tt) ws)) (fact 𝓤 (r ≡ opens h)))
 
-module _ {M : Type 1} (𝓤 : URA M) (H : Heap 𝓤) (A : Atoms 𝓤) (W : Given 𝓤 H A) (at-mem : Memory → SProp 𝓤) (run : Routine → Fun 𝓤) (κ : Lft) (q : Share) (b o : ℕ) (γ : GName) (h : Gate) where
+module _ {M : Type 1} (𝓤 : URA M) (H : Heap 𝓤) (A : Atoms 𝓤) (W : Given 𝓤 H A) (at-mem : Memory → SProp 𝓤)
+    (run : Routine → Fun 𝓤) (κ : Lft) (q : Share) (b o : ℕ) (γ : GName) (h : Gate) where
   abbrev x : RefT Gate × Unit {0}
   x = (record { ptr = (b, o); name = γ; now = h }, tt)
 
@@ -88,7 +89,8 @@ module _ {M : Type 1} (𝓤 : URA M) (H : Heap 𝓤) (A : Atoms 𝓤) (W : Given
 
   -- at exit: the gate that stands there, and the answer
   exits : (r : Gate) (t : Bool) (v : Val) → (t ≡ opens h) × (r ≡ passedGate h)
-      → ent 𝓤 (⋆ 𝓤 H A (‵ (fobs γ (G.the-row .coded .code r)) ∷ ‵ (fbor κ (Body (mem G.the-row) b o γ)) ∷ ‵ (flft κ q) ∷ ‵ (bool .own t (v ∷ [])) ∷ [])) (Post v)
+      → ent 𝓤 (⋆ 𝓤 H A (‵ (fobs γ (G.the-row .coded .code r)) ∷ ‵ (fbor κ (Body (mem G.the-row) b o γ)) ∷ ‵ (flft κ q)
+      ∷ ‵ (bool .own t (v ∷ [])) ∷ [])) (Post v)
   exits r t v e =
       qed W (‵ (fobs γ (G.the-row .coded .code r)) ∷ ‵ (fbor κ (Body (mem G.the-row) b o γ)) ∷ ‵ (flft κ q) ∷ ‵ (bool .own t (v ∷ [])) ∷ []) ∵
       suffices ! _ (ends-at 𝓤 H A pass.ended stayed (pass.clauses 𝓤 H A at-mem run) W (((κ, tt), (q, tt), tt, x, at), tt) v t (r, tt) (tt, tt)) $ says ! e $
@@ -108,10 +110,13 @@ module _ {M : Type 1} (𝓤 : URA M) (H : Heap 𝓤) (A : Atoms 𝓤) (W : Given
   goes-answer : ent 𝓤 (sem 𝓤 H A (G.the-row .own h (gateVal h ∷ []))) (Answer 𝓤 H A at-mem run .pre to-answer)
   goes-answer = qed W (‵ (G.the-row .own h (gateVal h ∷ [])) ∷ []) ∵ nothing ! $ move ! (1 ∷ 0 ∷ []) $ join ! $ nothing ! $ join ! $ frame ! $ done !
 
-  module _ (C : Calls 𝓤 H) (Λ : Loops 𝓤 H) (fm : FmC 𝓤 H (W .laws) C) (known-after : Triple 𝓤 (C #after) (After 𝓤 H A at-mem run)) (known-answer : Triple 𝓤 (C #answer) (Answer 𝓤 H A at-mem run)) where
+  module _ (C : Calls 𝓤 H) (Λ : Loops 𝓤 H) (fm : FmC 𝓤 H (W .laws) C)
+      (known-after : Triple 𝓤 (C #after) (After 𝓤 H A at-mem run))
+      (known-answer : Triple 𝓤 (C #answer) (Answer 𝓤 H A at-mem run)) where
     walk : ent 𝓤 (onEntry 𝓤 H A pass.signature (κ, tt) (q, tt) x at) (WpFn 𝓤 H C Λ code.function (vptr b o ∷ []) Post)
     walk =
-        qed W ((‵ (flft κ q) ⊛ ‵ ftrue) ∷ ‵ (owns (MutRef (named 0) κ G.the-row ∷ []) x at) ∷ []) ∵ split ! $ move ! (2 ∷ []) $ fsplit ! $ fsplit3 ! $ drop ! $ move ! (0 ∷ 1 ∷ 3 ∷ []) $
+        qed W ((‵ (flft κ q) ⊛ ‵ ftrue) ∷ ‵ (owns (MutRef (named 0) κ G.the-row ∷ []) x at) ∷ []) ∵ split ! $ move ! (2 ∷ []) $
+        fsplit ! $ fsplit3 ! $ drop ! $ move ! (0 ∷ 1 ∷ 3 ∷ []) $
         -- [obs; the borrow; the token; true; true]
         enter ! C Λ code.function (vptr b o ∷ []) _ $
         alloc1 ! (λ l₀. alloc1 ! (λ l₁. alloc1 ! (λ l₂. alloc1 ! (λ l₃. alloc0 ! $ params1 ! $ pass1 ! (init ! 4 refl (tt, tt)) $ pass0 ! $
@@ -119,21 +124,27 @@ module _ {M : Type 1} (𝓤 : URA M) (H : Heap 𝓤) (A : Atoms 𝓤) (W : Given
         move ! (8 ∷ 9 ∷ 10 ∷ []) $ opens-ref ! tt G.the-row {h = h} b o (λ vs.
         spelt ! G.the-row (Is G.the-row) (shows 𝓤 H A G.the-row) (LL.vals G.the-type G′.the-laws) (LL.tells G.the-type G′.the-laws) fullShare h vs b o $
         -- [the gate's cell; what it owns; the open borrow; obs; auth; room for _3; …; room for _2; …; _1; …; room for _0; …]
-        assigns ! (of-opd ! (load ! (from ! (hop ! (look ! 9 refl) (stop !))) (look-raw ! 0 refl))) (from ! (stop !)) (init ! 7 refl (gate-typed 𝓤 H A W h (gateVal h) (gate-is h))) $
+        assigns ! (of-opd ! (load ! (from ! (hop ! (look ! 9 refl) (stop !))) (look-raw ! 0 refl))) (from ! (stop !))
+        (init ! 7 refl (gate-typed 𝓤 H A W h (gateVal h) (gate-is h))) $
         -- the call of `passed_gate`: some gate r with the machine value u
         move ! (1 ∷ []) $ use1 W (raw (After 𝓤 H A at-mem run .pre to-after)) goes-after $
         calls-at ! fm (After 𝓤 H A at-mem run) known-after to-after (and-then ! (load ! (from ! (stop !)) (look ! 7 refl)) (no-more !)) (λ u.
-        use1 W (later (some (λ (r : Gate). (‵ ftrue ⊛ ‵ (G.the-row .own r (u ∷ []))) ⊛ raw (ensured 𝓤 H A after.ended (after.clauses 𝓤 H A at-mem run) tt (h, tt) tt r)))) (id⊢ 𝓤 _) $ await ! tt $ pick ! (λ r.
-        split ! $ move ! (1 ∷ []) $ use1 W (raw (fact 𝓤 (r ≡ passedGate h))) (after-said 𝓤 H A at-mem run h r) $ heard ! (r ≡ passedGate h) (λ e. split ! $ drop ! $
+        use1 W (later (some (λ (r : Gate). (‵ ftrue ⊛ ‵ (G.the-row .own r (u ∷ []))) ⊛ raw
+        (ensured 𝓤 H A after.ended (after.clauses 𝓤 H A at-mem run) tt (h, tt) tt r)))) (id⊢ 𝓤 _) $ await ! tt $ pick ! (λ r.
+        split ! $ move ! (1 ∷ []) $ use1 W (raw (fact 𝓤 (r ≡ passedGate h))) (after-said 𝓤 H A at-mem run h r) $
+        heard ! (r ≡ passedGate h) (λ e. split ! $ drop ! $
         peeks ! G.the-row (Is G.the-row) (shows 𝓤 H A G.the-row) r (u ∷ []) (λ is.
         -- [what r owns; the gate's cell; the open borrow; obs; auth; room for _3; …; _2; …; _1; …; room for _0; …]
         land ! (from ! (stop !)) (init ! 5 refl (gate-typed 𝓤 H A W r u is)) $
-        assigns ! (of-opd ! (load ! (from ! (stop !)) (look ! 5 refl))) (from ! (hop ! (look ! 9 refl) (stop !))) (store-raw ! 1 refl (gate-typed 𝓤 H A W r u is)) $
+        assigns ! (of-opd ! (load ! (from ! (stop !)) (look ! 5 refl))) (from ! (hop ! (look ! 9 refl) (stop !)))
+        (store-raw ! 1 refl (gate-typed 𝓤 H A W r u is)) $
         move ! (1 ∷ 0 ∷ []) $ closes ! tt G.the-row r (u ∷ []) b o $
         -- [obs; the borrow; the token; _3; …; _2; …; _1; …; room for _0; …]; the call of `opens`
-        owned ! G.the-row (Is G.the-row) (gate-makes 𝓤 H A W) h (gateVal h ∷ []) (gate-is h) $ use1 W (raw (Answer 𝓤 H A at-mem run .pre to-answer)) goes-answer $
+        owned ! G.the-row (Is G.the-row) (gate-makes 𝓤 H A W) h (gateVal h ∷ []) (gate-is h) $
+        use1 W (raw (Answer 𝓤 H A at-mem run .pre to-answer)) goes-answer $
         calls-at ! fm (Answer 𝓤 H A at-mem run) known-answer to-answer (and-then ! (load ! (from ! (stop !)) (look ! 6 refl)) (no-more !)) (λ v.
-        use1 W (later (some (λ (t : Bool). (‵ ftrue ⊛ ‵ (bool .own t (v ∷ []))) ⊛ raw (ensured 𝓤 H A answer.ended (answer.clauses 𝓤 H A at-mem run) tt (h, tt) tt t)))) (id⊢ 𝓤 _) $ await ! tt $ pick ! (λ t.
+        use1 W (later (some (λ (t : Bool). (‵ ftrue ⊛ ‵ (bool .own t (v ∷ []))) ⊛ raw
+        (ensured 𝓤 H A answer.ended (answer.clauses 𝓤 H A at-mem run) tt (h, tt) tt t)))) (id⊢ 𝓤 _) $ await ! tt $ pick ! (λ t.
         split ! $ move ! (1 ∷ []) $ use1 W (raw (fact 𝓤 (t ≡ opens h))) (answer-said 𝓤 H A at-mem run h t) $ heard ! (t ≡ opens h) (λ e′. split ! $ drop ! $
         peeks ! bool (Is bool) (shows 𝓤 H A bool) t (v ∷ []) (λ is′.
         -- [the answer; obs; the borrow; the token; _3; …; _2; …; _1; …; room for _0; …]
@@ -146,8 +157,10 @@ module _ {M : Type 1} (𝓤 : URA M) (H : Heap 𝓤) (A : Atoms 𝓤) (W : Given
   pass-walks : (C : Calls 𝓤 H) (Λ : Loops 𝓤 H) → FmC 𝓤 H (W .laws) C → Triple 𝓤 (C #after) (After 𝓤 H A mem run) → Triple 𝓤 (C #answer) (Answer 𝓤 H A mem run)
       → Walks 𝓤 H A pass.ended stayed (WpFn 𝓤 H C Λ code.function) (pass.clauses 𝓤 H A mem run)
   pass-walks C Λ fm known-after known-answer =
-      walked 𝓤 H A pass.ended stayed (pass.clauses 𝓤 H A mem run) (WpFn 𝓤 H C Λ code.function) (λ κs. (ptr-vals, tt)) (λ κs. (mut-tells (named 0) (κs .0) G.the-row, tt))
-      (λ κs qs bounds a _ _. via 𝓤 _ (fst∗ 𝓤 _ (emp 𝓤)) (walk 𝓤 H A W mem run (κs .0) (qs .0) (a .0 .ptr .0) (a .0 .ptr .1) (a .0 .name) (a .0 .now) C Λ fm known-after known-answer))
+      walked 𝓤 H A pass.ended stayed (pass.clauses 𝓤 H A mem run) (WpFn 𝓤 H C Λ code.function) (λ κs. (ptr-vals, tt))
+      (λ κs. (mut-tells (named 0) (κs .0) G.the-row, tt))
+      (λ κs qs bounds a _ _. via 𝓤 _ (fst∗ 𝓤 _ (emp 𝓤)) (walk 𝓤 H A W mem run (κs .0) (qs .0) (a .0 .ptr .0) (a .0 .ptr .1)
+      (a .0 .name) (a .0 .now) C Λ fm known-after known-answer))
 
   goes : AllGo 𝓤 H A W 1 (pass.signature .params) (pass.ended .kept) stayed
   goes = (goes-ref 𝓤 H A W 1 0 tt (plain (λ _. G.the-row)), tt)
@@ -156,7 +169,8 @@ pass-meets : {M : Type 1} (𝓤 : URA M) (H : Heap 𝓤) (A : Atoms 𝓤) (W : G
     → Triple 𝓤 (𝓣 .C #after) (After 𝓤 H A mem run) → Triple 𝓤 (𝓣 .C #answer) (Answer 𝓤 H A mem run)
     → Meets 𝓤 H A pass.signature (WpFn 𝓤 H (𝓣 .C) (𝓣 .Λ) code.function) (pass.spec 𝓤 H A mem run)
 pass-meets 𝓤 H A W mem run 𝓣 known-after known-answer =
-    walk-meets 𝓤 H A pass.ended stayed W (goes 𝓤 H A W mem run) (pass.clauses 𝓤 H A mem run) (WpFn 𝓤 H (𝓣 .C) (𝓣 .Λ) code.function) (WpFn-mono 𝓤 H (W .laws) 𝓣 code.function)
+    walk-meets 𝓤 H A pass.ended stayed W (goes 𝓤 H A W mem run) (pass.clauses 𝓤 H A mem run)
+    (WpFn 𝓤 H (𝓣 .C) (𝓣 .Λ) code.function) (WpFn-mono 𝓤 H (W .laws) 𝓣 code.function)
     (pass-walks 𝓤 H A W mem run (𝓣 .C) (𝓣 .Λ) (fmOf 𝓤 H (W .laws) 𝓣) known-after known-answer)
 
 pub pass-spec : {M : Type 1} → stated.statement M

@@ -23,7 +23,11 @@ same-length : tie.Need-same-length
 same-length c = search needs
 
 returns-2 : tie.Need-returns-2
-returns-2 c = rw (not-false (c .before .before .before .before .before .before .before .before .before .before .args .clear) (c .before .before .before .before .before .before .before .before .if1 .left)) (rw (c .before .before .before .before .before .peer .ensures) at (c .before .before .put-peer .ensures))
+returns-2 c =
+    let c5 = c .before .before .before .before .before in
+    let c8 = c5 .before .before .before in
+    let c10 = c8 .before .before in
+    rw (not-false (c10 .args .clear) (c8 .if1 .left)) (rw (c5 .peer .ensures) at (c .before .before .put-peer .ensures))
 
 pub disarm-spec : {M : Type 1} → statement M
 disarm-spec =

@@ -29,18 +29,27 @@ same-length-2 c = search needs
 
 returns-2 : tie.Need-returns-2
 returns-2 c =
-    apart _ _ (lost _ _ _ _ (sym (c .before .before .before .before .gate .given .1) ∙ c .before .before .before .before .before .before .target .ensures) (not-true _ (rw (c .before .before .pass-local .ensures) at (c .if1 .taken))))
+    let c4 = c .before .before .before .before in
+    let c6 = c4 .before .before in
+    apart _ _ (lost _ _ _ _ (sym (c4 .gate .given .1) ∙ c6 .target .ensures) (not-true _ (rw (c .before .before .pass-local .ensures) at (c .if1 .taken))))
 
 disarm-requires : tie.Need-disarm-requires
-disarm-requires c κs = found _ _ _ _ (sym (c .before .before .before .before .before .before .before .before .gate .given .1) ∙ c .before .before .before .before .before .before .before .before .before .before .target .ensures)
+disarm-requires c κs =
+    let c8 = c .before .before .before .before .before .before .before .before in
+    let c10 = c8 .before .before in
+    found _ _ _ _ (sym (c8 .gate .given .1) ∙ c10 .target .ensures)
 
 same-length-3 : tie.Need-same-length-3
 same-length-3 c = search needs
 
 returns-3 : tie.Need-returns-3
 returns-3 c =
-    let r = apart _ _ (answered _ _ _ _ (sym (c .before .before .before .before .before .before .before .before .before .before .before .gate .given .1) ∙ c .before .before .before .before .before .before .before .before .before .before .before .before .before .target .ensures) (not-false _ (rw (c .before .before .before .before .before .before .before .before .before .pass-local .ensures) at (c .before .before .before .before .before .before .before .if1 .left)))) in
-    ((rw (c .before .before .before .before .before .before .before .before .before .pass-local .ensures) at (c .before .before .disarm .ensures)) ∙ r .0, r .1)
+    let c7 = c .before .before .before .before .before .before .before in
+    let c9 = c7 .before .before in
+    let c11 = c9 .before .before in
+    let c13 = c11 .before .before in
+    let r = apart _ _ (answered _ _ _ _ (sym (c11 .gate .given .1) ∙ c13 .target .ensures) (not-false _ (rw (c9 .pass-local .ensures) at (c7 .if1 .left)))) in
+    ((rw (c9 .pass-local .ensures) at (c .before .before .disarm .ensures)) ∙ r .0, r .1)
 
 pub ring-spec : {M : Type 1} → statement M
 ring-spec =

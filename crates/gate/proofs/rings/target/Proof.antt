@@ -27,18 +27,28 @@ cast-if3 : tie.Need-cast-if3
 cast-if3 c = search needs
 
 returns-3 : tie.Need-returns-3
-returns-3 c = nobody _ _ _ 2 (le-ltb _ _ (rw (c .before .before .before .before .before .before .before .before .before .before .settings .ensures) at (c .if3 .taken)))
+returns-3 c =
+    let c10 = c .before .before .before .before .before .before .before .before .before .before in
+    nobody _ _ _ 2 (le-ltb _ _ (rw (c10 .settings .ensures) at (c .if3 .taken)))
 
 entry-of-requires : tie.Need-entry-of-requires
 entry-of-requires c κs =
-    ((rw (c .before .before .before .before .before .before .before .before .before .before .settings .ensures) at (c .before .before .before .before .before .before .before .if1 .left)), (rw (c .before .before .before .before .before .before .before .before .before .before .settings .ensures) at (c .if3 .left)))
+    let c7 = c .before .before .before .before .before .before .before in
+    let c10 = c7 .before .before .before in
+    ((rw (c10 .settings .ensures) at (c7 .if1 .left)), (rw (c10 .settings .ensures) at (c .if3 .left)))
 
 gate-of-requires : tie.Need-gate-of-requires
 gate-of-requires c κs = search needs
 
 returns-4 : tie.Need-returns-4
 returns-4 c =
-    rw (c .gate-of .ensures, c .before .entry-of .ensures, c .before .before .before .before .before .before .before .peer .ensures) (live _ _ _ (rw (c .before .before .before .before .before .before .before .before .before .before .before .before .settings .ensures) at (c .before .before .before .before .before .before .before .before .before .if1 .left)) (rw (c .before .before .before .before .before .before .before .peer .ensures) at (c .before .before .before .before .before .if2 .left)) (rw (c .before .before .before .before .before .before .before .before .before .before .before .before .settings .ensures) at (c .before .before .if3 .left)))
+    let c5 = c .before .before .before .before .before in
+    let c7 = c5 .before .before in
+    let c9 = c7 .before .before in
+    let c12 = c9 .before .before .before in
+    rw (c .gate-of .ensures, c .before .entry-of .ensures, c7 .peer .ensures)
+    (live _ _ _ (rw (c12 .settings .ensures) at (c9 .if1 .left)) (rw (c7 .peer .ensures) at (c5 .if2 .left))
+    (rw (c12 .settings .ensures) at (c .before .before .if3 .left)))
 
 pub target-spec : {M : Type 1} → statement M
 target-spec =

@@ -32,9 +32,14 @@ same-length-3 c = search needs
 
 returns-2 : tie.Need-returns-2
 returns-2 c =
-    let a = c .before .before .before .before .before .before .before .before .before .before .before .args in
-    runs-write-then (a .hub .now) _ (a .region .now) _ (a .id) _ _ _ _ (c .before .before .before .before .before .before .before .put-state .ensures)
-    (rw (not-false (a .changed) (c .before .before .before .before .if1 .left)) (runs-others (a .hub .now) _ _ (a .id) _ (c .before .before .ring-others .ensures .0) (c .before .before .ring-others .ensures .1)))
+    let c4 = c .before .before .before .before in
+    let c7 = c4 .before .before .before in
+    let c11 = c7 .before .before .before .before in
+    let a = c11 .args in
+    runs-write-then (a .hub .now) _ (a .region .now) _ (a .id) _ _ _ _ (c7 .put-state .ensures)
+    (rw (not-false (a .changed) (c4 .if1 .left))
+    (runs-others (a .hub .now) _ _ (a .id) _ (c .before .before .ring-others .ensures .0)
+    (c .before .before .ring-others .ensures .1)))
 
 pub announce-spec : {M : Type 1} → statement M
 announce-spec =

@@ -47,18 +47,27 @@ same-length-2 c = search needs
 returns-2 : tie.Need-returns-2
 unfolding effect
 returns-2 c =
-    let a = c .before .before .before .before .before .before .before .before .before .before .before .args in
-    let n = rw (c .before .before .before .before .before .before .before .before .both-lent .ensures) at (c .before .before .before .before .before .before .space-refusal .ensures .0) in
-    let off = rw (c .before .before .memory-on .ensures, c .before .before .before .peer .ensures) at (not-true (c .before .before .memory-on .result) (c .before .if2 .taken)) in
+    let c5 = c .before .before .before .before .before in
+    let c6 = c5 .before in
+    let c8 = c6 .before .before in
+    let c11 = c8 .before .before .before in
+    let a = c11 .args in
+    let n = rw (c8 .both-lent .ensures) at (c6 .space-refusal .ensures .0) in
+    let off = rw (c .before .before .memory-on .ensures, c .before .before .before .peer .ensures)
+    at (not-true (c .before .before .memory-on .result) (c .before .if2 .taken)) in
     serves-accepted (a .hub .now) _ (a .region .now) _ _ _
-    (register-write-refusal (hubOf (a .hub .now)) (a .region .now) (a .id) (a .records) (a .offset) (a .width) (a .value) ∙ sym n ∙ c .before .before .before .before .before .if1 .left)
+    (register-write-refusal (hubOf (a .hub .now)) (a .region .now) (a .id) (a .records) (a .offset) (a .width) (a .value) ∙ sym n ∙ c5 .if1 .left)
     refl (c .silent2 .ensures .0)
     (rw off (runs-nothing (a .hub .now) _ (a .region .now) (a .id) _ refl (c .silent2 .ensures .1)))
 
 store-register-requires : tie.Need-store-register-requires
 store-register-requires c κs =
-    let a = c .before .before .before .before .before .before .before .before .before .before .before .before .args in
-    ready (a .hub .now) (a .region .now) (a .records) (a .id) (rw (c .before .before .before .before .before .before .before .before .before .both-lent .ensures) at (c .before .before .before .before .before .before .before .space-refusal .ensures .1 .0 (c .before .before .before .before .before .before .if1 .left)))
+    let c6 = c .before .before .before .before .before .before in
+    let c7 = c6 .before in
+    let c9 = c7 .before .before in
+    let c12 = c9 .before .before .before in
+    let a = c12 .args in
+    ready (a .hub .now) (a .region .now) (a .records) (a .id) (rw (c9 .both-lent .ensures) at (c7 .space-refusal .ensures .1 .0 (c6 .if1 .left)))
 
 served-requires : tie.Need-served-requires
 served-requires c κs = search needs
@@ -72,12 +81,20 @@ same-length-4 c = search needs
 returns-3 : tie.Need-returns-3
 unfolding effect
 returns-3 c =
-    let a = c .before .before .before .before .before .before .before .before .before .before .before .before .before .before .before .before .before .before .args in
-    let n = rw (c .before .before .before .before .before .before .before .before .before .before .before .before .before .before .before .both-lent .ensures) at (c .before .before .before .before .before .before .before .before .before .before .before .before .before .space-refusal .ensures .0) in
-    let on = rw (c .before .before .before .before .before .before .before .before .before .memory-on .ensures, c .before .before .before .before .before .before .before .before .before .before .peer .ensures) at (not-false (c .before .before .before .before .before .before .before .before .before .memory-on .result) (c .before .before .before .before .before .before .before .before .if2 .left)) in
+    let c5 = c .before .before .before .before .before in
+    let c8 = c5 .before .before .before in
+    let c9 = c8 .before in
+    let c10 = c9 .before in
+    let c12 = c10 .before .before in
+    let c13 = c12 .before in
+    let c15 = c13 .before .before in
+    let c18 = c15 .before .before .before in
+    let a = c18 .args in
+    let n = rw (c15 .both-lent .ensures) at (c13 .space-refusal .ensures .0) in
+    let on = rw (c9 .memory-on .ensures, c10 .peer .ensures) at (not-false (c9 .memory-on .result) (c8 .if2 .left)) in
     serves-accepted (a .hub .now) _ (a .region .now) _ _ _
-    (register-write-refusal (hubOf (a .hub .now)) (a .region .now) (a .id) (a .records) (a .offset) (a .width) (a .value) ∙ sym n ∙ c .before .before .before .before .before .before .before .before .before .before .before .before .if1 .left)
-    refl (c .served .ensures .0) (rw (on, c .served .ensures .1) (c .before .before .before .before .before .store-register .ensures))
+    (register-write-refusal (hubOf (a .hub .now)) (a .region .now) (a .id) (a .records) (a .offset) (a .width) (a .value) ∙ sym n ∙ c12 .if1 .left)
+    refl (c .served .ensures .0) (rw (on, c .served .ensures .1) (c5 .store-register .ensures))
 
 pub register-write-spec : {M : Type 1} → statement M
 register-write-spec =

@@ -43,12 +43,16 @@ same-length-2 c = search needs
 
 returns-2 : tie.Need-returns-2
 returns-2 c =
+    let c5 = c .before .before .before .before .before in
+    let c7 = c5 .before .before in
+    let c8 = c7 .before in
+    let c10 = c8 .before .before in
     record {
-      number = sym (c .before .before .before .before .before .before .before .if1 .left) ∙ rw (c .before .before .before .before .before .before .before .before .before .before .both-lent .ensures) at (c .before .before .before .before .before .before .before .before .admitted .ensures .0);
+      number = sym (c7 .if1 .left) ∙ rw (c10 .both-lent .ensures) at (c8 .admitted .ensures .0);
       refused = λ some. absurd (some refl);
-      admitted = λ z. rw (c .before .before .before .before .before .before .before .before .before .before .both-lent .ensures) at (c .before .before .before .before .before .before .before .before .admitted .ensures .1 (c .before .before .before .before .before .before .before .if1 .left));
+      admitted = λ z. rw (c10 .both-lent .ensures) at (c8 .admitted .ensures .1 (c7 .if1 .left));
       slot = λ z. c .before .before .before .put-reset .ensures;
-      changed = λ z. c .state-changes .ensures ∙ ap (λ (p : Peer). changes (p .state) 0) (c .before .before .before .before .before .peer .ensures);
+      changed = λ z. c .state-changes .ensures ∙ ap (λ (p : Peer). changes (p .state) 0) (c5 .peer .ensures);
     }
 
 pub restart-spec : {M : Type 1} → statement M

@@ -44,9 +44,12 @@ state-changes-requires c κs = search needs
 
 announce-requires : tie.Need-announce-requires
 announce-requires c κs =
-    let a = c .before .before .before .before .before .before .before .before .before .before .before .before .before .args in
+    let c5 = c .before .before .before .before .before in
+    let c7 = c5 .before .before in
+    let c13 = c7 .before .before .before .before .before .before in
+    let a = c13 .args in
     let s = slotAt (hubOf (a .hub .now)) (a .id) in
-    ready-kept (a .hub .now) _ (a .region .now) (a .id) (withPeer s (c .before .before .before .before .before .before .before .with-state .result)) (c .before .before .before .before .before .before .before .before .before .before .before .before .before .pre) (c .before .before .before .before .before .put-peer2 .ensures)
+    ready-kept (a .hub .now) _ (a .region .now) (a .id) (withPeer s (c7 .with-state .result)) (c13 .pre) (c5 .put-peer2 .ensures)
 
 none-requires-2 : tie.Need-none-requires-2
 none-requires-2 c κs = search needs
@@ -57,11 +60,15 @@ same-length c = search needs
 returns : tie.Need-returns
 unfolding registerStored registerAt
 returns c =
-    let a = c .before .before .before .before .before .before .before .before .before .before .before .args in
+    let c4 = c .before .before .before .before in
+    let c6 = c4 .before .before in
+    let c7 = c6 .before in
+    let c11 = c7 .before .before .before .before in
+    let a = c11 .args in
     let s = slotAt (hubOf (a .hub .now)) (a .id) in
-    rw (c .before .before .before .before .before .before .match .keys1)
+    rw (c6 .match .keys1)
     (runs-own (a .hub .now) _ (a .region .now) (a .id) _ (withPeer s (withInterrupt (s .peer) (bitAnd (a .value) 1)))
-    (rw (c .before .before .before .put-peer .ensures, c .before .before .before .before .with-interrupt .ensures, c .before .before .before .before .before .before .before .peer .ensures)) (c .none .ensures))
+    (rw (c .before .before .before .put-peer .ensures, c4 .with-interrupt .ensures, c7 .peer .ensures)) (c .none .ensures))
 
 same-length-2 : tie.Need-same-length-2
 same-length-2 c = search needs
@@ -69,11 +76,14 @@ same-length-2 c = search needs
 returns-2 : tie.Need-returns-2
 unfolding registerStored registerAt
 returns-2 c =
-    let a = c .before .before .before .before .before .before .before .before .before .before .before .args in
-    rw (c .before .before .before .before .before .before .match .keys2)
+    let c4 = c .before .before .before .before in
+    let c6 = c4 .before .before in
+    let c11 = c6 .before .before .before .before .before in
+    let a = c11 .args in
+    rw (c6 .match .keys2)
     (runs-ring (a .hub .now) _ (a .region .now) (a .id) _ (rungPeer (a .value)) (rungVector (a .value))
-    (rw (← (c .before .before .before .before .rung-peer .ensures), ← (c .before .before .before .rung-vector .ensures)) (c .before .before .ring-one .ensures .0))
-    (rw (← (c .before .before .before .before .rung-peer .ensures), ← (c .before .before .before .rung-vector .ensures)) (c .before .before .ring-one .ensures .1)))
+    (rw (← (c4 .rung-peer .ensures), ← (c .before .before .before .rung-vector .ensures)) (c .before .before .ring-one .ensures .0))
+    (rw (← (c4 .rung-peer .ensures), ← (c .before .before .before .rung-vector .ensures)) (c .before .before .ring-one .ensures .1)))
 
 same-length-3 : tie.Need-same-length-3
 same-length-3 c = search needs
@@ -84,13 +94,22 @@ same-length-4 c = search needs
 returns-3 : tie.Need-returns-3
 unfolding registerStored registerAt announces
 returns-3 c =
-    let a = c .before .before .before .before .before .before .before .before .before .before .before .before .before .before .before .before .before .before .args in
+    let c4 = c .before .before .before .before in
+    let c7 = c4 .before .before .before in
+    let c10 = c7 .before .before .before in
+    let c12 = c10 .before .before in
+    let c13 = c12 .before in
+    let c14 = c13 .before in
+    let c18 = c14 .before .before .before .before in
+    let a = c18 .args in
     let s = slotAt (hubOf (a .hub .now)) (a .id) in
-    let q : c .before .before .before .before .before .before .before .before .before .before .before .before .with-state .result ≡ withState (s .peer) (stateValue (a .value)) = c .before .before .before .before .before .before .before .before .before .before .before .before .with-state .ensures ∙ ap (λ (p : Peer). withState p (stateValue (a .value))) (c .before .before .before .before .before .before .before .before .before .before .before .before .before .before .peer .ensures) in
-    let changed : c .before .before .before .before .before .before .before .state-changes .result ≡ changes (s .peer .state) (stateValue (a .value)) = c .before .before .before .before .before .before .before .state-changes .ensures ∙ ap₂ (λ (p r : Peer). changes (p .state) (r .state)) (c .before .before .before .before .before .before .before .before .before .before .before .before .before .before .peer .ensures) q in
-    rw (c .before .before .before .before .before .before .before .before .before .before .before .before .before .match .keys3)
-    (runs-own-then (a .hub .now) (c .before .before .before .before .before .before .before .before .before .before .put-peer2 .last .0) _ (a .region .now) _ (a .id) (withPeer s (withState (s .peer) (stateValue (a .value)))) _ _
-    (c .before .before .before .before .before .before .before .before .before .before .put-peer2 .ensures ∙ rw q) (rw (q, changed) at (c .before .before .before .before .announce .ensures)))
+    let q : c12 .with-state .result ≡ withState (s .peer) (stateValue (a .value)) = c12 .with-state .ensures
+    ∙ ap (λ (p : Peer). withState p (stateValue (a .value))) (c14 .peer .ensures) in
+    let changed : c7 .state-changes .result ≡ changes (s .peer .state) (stateValue (a .value)) = c7 .state-changes .ensures
+    ∙ ap₂ (λ (p r : Peer). changes (p .state) (r .state)) (c14 .peer .ensures) q in
+    rw (c13 .match .keys3)
+    (runs-own-then (a .hub .now) (c10 .put-peer2 .last .0) _ (a .region .now) _ (a .id) (withPeer s (withState (s .peer) (stateValue (a .value)))) _ _
+    (c10 .put-peer2 .ensures ∙ rw q) (rw (q, changed) at (c4 .announce .ensures)))
 
 same-length-5 : tie.Need-same-length-5
 same-length-5 c = search needs
@@ -98,7 +117,8 @@ same-length-5 c = search needs
 returns-4 : tie.Need-returns-4
 returns-4 c =
     let a = c .before .before .before .before .before .before .args in
-    rw (nothing-stored (a .id) (slotAt (hubOf (a .hub .now)) (a .id)) (a .offset) (a .value) (c .before .match .rest .0 .0 .1) (c .before .match .rest .0 .1) (c .before .match .rest .1))
+    rw (nothing-stored (a .id) (slotAt (hubOf (a .hub .now)) (a .id)) (a .offset) (a .value) (c .before .match .rest .0 .0 .1)
+    (c .before .match .rest .0 .1) (c .before .match .rest .1))
     (runs-nothing (a .hub .now) _ (a .region .now) (a .id) _ refl (c .none2 .ensures))
 
 pub store-register-spec : {M : Type 1} → statement M

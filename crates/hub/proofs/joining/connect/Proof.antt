@@ -42,12 +42,16 @@ same-length-2 c = search needs
 returns-2 : tie.Need-returns-2
 unfolding effect runAll run
 returns-2 c =
-    let a = c .before .before .before .before .before .before .before .before .before .before .args in
-    let z = sym (c .before .before .before .before .before .before .before .joining-refusal .ensures .0) ∙ c .before .before .before .before .before .before .if1 .left in
+    let c4 = c .before .before .before .before in
+    let c6 = c4 .before .before in
+    let c7 = c6 .before in
+    let c10 = c7 .before .before .before in
+    let a = c10 .args in
+    let z = sym (c7 .joining-refusal .ensures .0) ∙ c6 .if1 .left in
     changes-accepted (a .hub .now) _ _ _ _
     (λ region. connect-refusal (hubOf (a .hub .now)) region (a .id)) z
     (c .answered2 .ensures) (λ region. refl)
-    (λ region. rw (c .before .before .before .before .reset .ensures, joining-slot (a .hub .now) (a .id) z) at (c .before .before .before .put-peer .ensures))
+    (λ region. rw (c4 .reset .ensures, joining-slot (a .hub .now) (a .id) z) at (c .before .before .before .put-peer .ensures))
 
 pub connect-spec : {M : Type 1} → statement M
 connect-spec =

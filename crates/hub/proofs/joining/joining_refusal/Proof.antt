@@ -38,18 +38,26 @@ peer-requires c κs = rw (c .before .before .settings .ensures) at (c .if2 .left
 returns-3 : tie.Need-returns-3
 unfolding first
 returns-3 c =
-    let a = c .before .before .before .before .before .before .before .before .before .args in
-    let s : sound (hubOf (a .hub .now)) ≡ true = sym (c .before .before .before .before .before .before .before .sound .ensures) ∙ not-false _ (c .before .before .before .before .before .before .if1 .left) in
-    let three = rw (c .before .before .before .before .before .settings .ensures) at (c .before .before .before .if2 .left) in
+    let c5 = c .before .before .before .before .before in
+    let c6 = c5 .before in
+    let c7 = c6 .before in
+    let c9 = c7 .before .before in
+    let a = c9 .args in
+    let s : sound (hubOf (a .hub .now)) ≡ true = sym (c7 .sound .ensures) ∙ not-false _ (c6 .if1 .left) in
+    let three = rw (c5 .settings .ensures) at (c .before .before .before .if2 .left) in
     let five = rw (c .before .before .peer .ensures) at (c .if3 .taken) in
     joining-facts (a .hub .now) (a .id) _ (rw (s, lt-leb _ _ three, eq-eqb _ _ five))
 
 returns-4 : tie.Need-returns-4
 unfolding first
 returns-4 c =
-    let a = c .before .before .before .before .before .before .before .before .before .args in
-    let s : sound (hubOf (a .hub .now)) ≡ true = sym (c .before .before .before .before .before .before .before .sound .ensures) ∙ not-false _ (c .before .before .before .before .before .before .if1 .left) in
-    let three = rw (c .before .before .before .before .before .settings .ensures) at (c .before .before .before .if2 .left) in
+    let c5 = c .before .before .before .before .before in
+    let c6 = c5 .before in
+    let c7 = c6 .before in
+    let c9 = c7 .before .before in
+    let a = c9 .args in
+    let s : sound (hubOf (a .hub .now)) ≡ true = sym (c7 .sound .ensures) ∙ not-false _ (c6 .if1 .left) in
+    let three = rw (c5 .settings .ensures) at (c .before .before .before .if2 .left) in
     let five = rw (c .before .before .peer .ensures) at (c .if3 .left) in
     joining-facts (a .hub .now) (a .id) _ (rw (s, lt-leb _ _ three, ne-eqb _ _ five))
 

@@ -30,11 +30,14 @@ same-length-2 c = search needs
 
 returns : tie.Need-returns
 returns c =
-    let a = c .before .before .before .before .before .before .before .before .before .before .args in
-    let n : c .answered .result .number ≡ c .before .before .before .before .before .before .set-up-refusal .result = ap (λ (r : Reply). r .number) (c .answered .ensures) in
-    let some : c .answered .result .number ≡ 0 → ⊥ = λ z. c .before .before .before .before .before .if1 .taken (sym n ∙ z) in
+    let c5 = c .before .before .before .before .before in
+    let c6 = c5 .before in
+    let c10 = c6 .before .before .before .before in
+    let a = c10 .args in
+    let n : c .answered .result .number ≡ c6 .set-up-refusal .result = ap (λ (r : Reply). r .number) (c .answered .ensures) in
+    let some : c .answered .result .number ≡ 0 → ⊥ = λ z. c5 .if1 .taken (sym n ∙ z) in
     record {
-      reply = c .answered .ensures ∙ ap (λ (x : ℕ). refusedBy x) (c .before .before .before .before .before .before .set-up-refusal .ensures .0);
+      reply = c .answered .ensures ∙ ap (λ (x : ℕ). refusedBy x) (c6 .set-up-refusal .ensures .0);
       hub = ap (λ (ws : List ℕ). hubOf ws) (c .before .before .before .put-zero .ensures) ∙ zero-words (length (a .hub .now)) ∙ sym (hub-refused _ (a .s) some);
       region = sym (region-refused _ (a .region .now) some);
       zero = λ p. c .before .before .before .put-zero .ensures;
@@ -57,11 +60,15 @@ same-length-4 c = search needs
 
 returns-2 : tie.Need-returns-2
 returns-2 c =
-    let a = c .before .before .before .before .before .before .before .before .before .before .before .before .before .before .args in
+    let c7 = c .before .before .before .before .before .before .before in
+    let c9 = c7 .before .before in
+    let c10 = c9 .before in
+    let c14 = c10 .before .before .before .before in
+    let a = c14 .args in
     let n : c .answered2 .result .number ≡ 0 = ap (λ (r : Reply). r .number) (c .answered2 .ensures) in
     record {
-      reply = c .answered2 .ensures ∙ ap (λ (x : ℕ). refusedBy x) (sym (c .before .before .before .before .before .before .before .before .before .if1 .left) ∙ c .before .before .before .before .before .before .before .before .before .before .set-up-refusal .ensures .0);
-      hub = c .before .before .before .before .before .before .before .put-fresh .ensures ∙ sym (ap (λ (x : ℕ). hubAfterSetUp x (a .s)) n);
+      reply = c .answered2 .ensures ∙ ap (λ (x : ℕ). refusedBy x) (sym (c9 .if1 .left) ∙ c10 .set-up-refusal .ensures .0);
+      hub = c7 .put-fresh .ensures ∙ sym (ap (λ (x : ℕ). hubAfterSetUp x (a .s)) n);
       region = c .before .before .before .clear .ensures ∙ sym (ap (λ (x : ℕ). regionAfterSetUp x (a .region .now)) n);
       zero = λ p. absurd (p n);
     }

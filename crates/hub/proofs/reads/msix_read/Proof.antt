@@ -59,19 +59,28 @@ in-table-requires c κs = search needs
 returns-3 : tie.Need-returns-3
 unfolding lentTo accessOf effect msixRead tableWord
 returns-3 c =
-    let a = c .before .before .before .before .before .before .before .before .before .before .args in
-    let on = rw (c .before .before .before .before .memory-on .ensures, c .before .before .before .before .before .peer .ensures) at (not-false (c .before .before .before .before .memory-on .result) (c .before .before .before .if2 .left)) in
+    let c4 = c .before .before .before .before in
+    let c5 = c4 .before in
+    let c6 = c5 .before in
+    let c7 = c6 .before in
+    let c8 = c7 .before in
+    let c10 = c8 .before .before in
+    let a = c10 .args in
+    let on = rw (c4 .memory-on .ensures, c5 .peer .ensures) at (not-false (c4 .memory-on .result) (c .before .before .before .if2 .left)) in
     let out = rw (c .before .in-table .ensures, c .before .before .settings .ensures) at (not-true (c .before .in-table .result) (c .if3 .taken)) in
     answers-accepted (a .hub .now) _ _ 0
     (region-checked (a .hub .now) (a .id) (Act.msixRead (a .offset) (a .width)) (a .offset) (a .width) _ _ refl refl
-    (c .before .before .before .before .before .before .before .before .nothing-lent .ensures) (c .before .before .before .before .before .before .before .space-refusal .ensures .0))
-    (c .before .before .before .before .before .before .if1 .left) (λ region. rw (on, out))
+    (c8 .nothing-lent .ensures) (c7 .space-refusal .ensures .0))
+    (c6 .if1 .left) (λ region. rw (on, out))
 
 entry-requires : tie.Need-entry-requires
 unfolding inTable
 entry-requires c κs =
-    let a = c .before .before .before .before .before .before .before .before .before .before .args in
-    let f = c .before .before .before .before .before .before .before .space-refusal .ensures .1 .0 (c .before .before .before .before .before .before .if1 .left) in
+    let c6 = c .before .before .before .before .before .before in
+    let c7 = c6 .before in
+    let c10 = c7 .before .before .before in
+    let a = c10 .args in
+    let f = c7 .space-refusal .ensures .1 .0 (c6 .if1 .left) in
     let inside = rw (c .before .in-table .ensures, c .before .before .settings .ensures) at (not-false (c .before .in-table .result) (c .if3 .left)) in
     let v : a .offset / 16 < hubOf (a .hub .now) .settings .vectors = ltb-true _ _ inside in
     (f .known, omega arith)
@@ -82,13 +91,22 @@ word-requires c κs = search needs
 returns-4 : tie.Need-returns-4
 unfolding lentTo accessOf effect msixRead tableWord
 returns-4 c =
-    let a = c .before .before .before .before .before .before .before .before .before .before .before .before .args in
-    let on = rw (c .before .before .before .before .before .before .memory-on .ensures, c .before .before .before .before .before .before .before .peer .ensures) at (not-false (c .before .before .before .before .before .before .memory-on .result) (c .before .before .before .before .before .if2 .left)) in
-    let inside = rw (c .before .before .before .in-table .ensures, c .before .before .before .before .settings .ensures) at (not-false (c .before .before .before .in-table .result) (c .before .before .if3 .left)) in
+    let c4 = c .before .before .before .before in
+    let c5 = c4 .before in
+    let c6 = c5 .before in
+    let c7 = c6 .before in
+    let c8 = c7 .before in
+    let c9 = c8 .before in
+    let c10 = c9 .before in
+    let c12 = c10 .before .before in
+    let a = c12 .args in
+    let on = rw (c6 .memory-on .ensures, c7 .peer .ensures) at (not-false (c6 .memory-on .result) (c5 .if2 .left)) in
+    let inside = rw (c .before .before .before .in-table .ensures, c4 .settings .ensures)
+    at (not-false (c .before .before .before .in-table .result) (c .before .before .if3 .left)) in
     answers-accepted (a .hub .now) _ _ (c .word .result)
     (region-checked (a .hub .now) (a .id) (Act.msixRead (a .offset) (a .width)) (a .offset) (a .width) _ _ refl refl
-    (c .before .before .before .before .before .before .before .before .before .before .nothing-lent .ensures) (c .before .before .before .before .before .before .before .before .before .space-refusal .ensures .0))
-    (c .before .before .before .before .before .before .before .before .if1 .left) (λ region. rw (on, inside, c .word .ensures, c .before .entry .ensures))
+    (c10 .nothing-lent .ensures) (c9 .space-refusal .ensures .0))
+    (c8 .if1 .left) (λ region. rw (on, inside, c .word .ensures, c .before .entry .ensures))
 
 pub msix-read-spec : {M : Type 1} → statement M
 msix-read-spec =

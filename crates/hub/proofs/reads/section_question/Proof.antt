@@ -30,8 +30,10 @@ settings-requires : tie.Need-settings-requires
 settings-requires c κs = c .before .range-refusal .ensures .1 .0 (c .if1 .left) .room
 
 section-of-requires : tie.Need-section-of-requires
-section-of-requires c κs =
-    (rw (c .settings .ensures) (c .before .before .range-refusal .ensures .1 .0 (c .before .if1 .left) .numbers), c .before .before .range-refusal .ensures .1 .1 (c .before .if1 .left) .some)
+section-of-requires c κs = (
+  rw (c .settings .ensures) (c .before .before .range-refusal .ensures .1 .0 (c .before .if1 .left) .numbers),
+  c .before .before .range-refusal .ensures .1 .1 (c .before .if1 .left) .some,
+)
 
 answer-requires : tie.Need-answer-requires
 answer-requires c κs = search needs
@@ -42,12 +44,16 @@ answered-requires c κs = search needs
 returns-2 : tie.Need-returns-2
 unfolding effect
 returns-2 c =
-    let a = c .before .before .before .before .before .before .before .before .args in
-    let n = rw (c .before .before .before .before .before .before .nothing-lent .ensures) at (c .before .before .before .before .before .range-refusal .ensures .0) in
+    let c4 = c .before .before .before .before in
+    let c5 = c4 .before in
+    let c6 = c5 .before in
+    let c8 = c6 .before .before in
+    let a = c8 .args in
+    let n = rw (c6 .nothing-lent .ensures) at (c5 .range-refusal .ensures .0) in
     λ region.
     rw (c .answered .ensures, c .before .answer .ensures, c .before .before .section-of .ensures, c .before .before .before .settings .ensures)
     (question-accepted _ _
-    (question-refusal (hubOf (a .hub .now)) region (a .id) (a .offset) (a .length) ∙ sym n ∙ c .before .before .before .before .if1 .left))
+    (question-refusal (hubOf (a .hub .now)) region (a .id) (a .offset) (a .length) ∙ sym n ∙ c4 .if1 .left))
 
 pub section-question-spec : {M : Type 1} → statement M
 section-question-spec =

@@ -28,34 +28,51 @@ settings-requires c κs =
 
 total-requires : tie.Need-total-requires
 total-requires c κs =
-    let s : sound (hubOf (c .before .before .before .before .args .hub .now)) ≡ true = sym (c .before .before .sound .ensures) ∙ not-false _ (c .before .if1 .left) in
+    let c4 = c .before .before .before .before in
+    let s : sound (hubOf (c4 .args .hub .now)) ≡ true = sym (c .before .before .sound .ensures) ∙ not-false _ (c .before .if1 .left) in
     rw (c .settings .ensures) (sound-numbers _ s)
 
 returns-2 : tie.Need-returns-2
 unfolding first
 returns-2 c =
-    let a = c .before .before .before .before .before .before .before .before .args in
-    let s : sound (hubOf (c .before .before .before .before .before .before .before .before .args .hub .now)) ≡ true = sym (c .before .before .before .before .before .before .sound .ensures) ∙ not-false _ (c .before .before .before .before .before .if1 .left) in
-    let two = rw (c .before .before .before .total .ensures, c .before .before .before .before .settings .ensures) at (c .if2 .taken) in
+    let c4 = c .before .before .before .before in
+    let c5 = c4 .before in
+    let c6 = c5 .before in
+    let c8 = c6 .before .before in
+    let a = c8 .args in
+    let s : sound (hubOf (c8 .args .hub .now)) ≡ true = sym (c6 .sound .ensures) ∙ not-false _ (c5 .if1 .left) in
+    let two = rw (c .before .before .before .total .ensures, c4 .settings .ensures) at (c .if2 .taken) in
     with-facts (a .hub .now) (a .lent) (a .id) _ (rw (s, two))
 
 returns-3 : tie.Need-returns-3
 unfolding first
 returns-3 c =
-    let a = c .before .before .before .before .before .before .before .before .before .before .before .before .args in
-    let s : sound (hubOf (c .before .before .before .before .before .before .before .before .before .before .before .before .args .hub .now)) ≡ true = sym (c .before .before .before .before .before .before .before .before .before .before .sound .ensures) ∙ not-false _ (c .before .before .before .before .before .before .before .before .before .if1 .left) in
-    let two = rw (c .before .before .before .before .before .before .before .total .ensures, c .before .before .before .before .before .before .before .before .settings .ensures) at (c .before .before .before .before .if2 .left) in
-    let eleven = rw (c .before .before .before .before .before .before .before .before .settings .ensures) at (c .if3 .taken) in
+    let c4 = c .before .before .before .before in
+    let c7 = c4 .before .before .before in
+    let c8 = c7 .before in
+    let c9 = c8 .before in
+    let c10 = c9 .before in
+    let c12 = c10 .before .before in
+    let a = c12 .args in
+    let s : sound (hubOf (c12 .args .hub .now)) ≡ true = sym (c10 .sound .ensures) ∙ not-false _ (c9 .if1 .left) in
+    let two = rw (c7 .total .ensures, c8 .settings .ensures) at (c4 .if2 .left) in
+    let eleven = rw (c8 .settings .ensures) at (c .if3 .taken) in
     with-facts (a .hub .now) (a .lent) (a .id) _ (rw (s, two, eleven))
 
 returns-4 : tie.Need-returns-4
 unfolding first
 returns-4 c =
-    let a = c .before .before .before .before .before .before .before .before .before .before .before .before .before .before .args in
-    let s : sound (hubOf (c .before .before .before .before .before .before .before .before .before .before .before .before .before .before .args .hub .now)) ≡ true = sym (c .before .before .before .before .before .before .before .before .before .before .before .before .sound .ensures) ∙ not-false _ (c .before .before .before .before .before .before .before .before .before .before .before .if1 .left) in
-    let two = rw (c .before .before .before .before .before .before .before .before .before .total .ensures, c .before .before .before .before .before .before .before .before .before .before .settings .ensures) at (c .before .before .before .before .before .before .if2 .left) in
-    let eleven = rw (c .before .before .before .before .before .before .before .before .before .before .settings .ensures) at (c .before .before .if3 .left) in
-    let three = rw (c .before .before .before .before .before .before .before .before .before .before .settings .ensures) at (c .if4 .taken) in
+    let c6 = c .before .before .before .before .before .before in
+    let c9 = c6 .before .before .before in
+    let c10 = c9 .before in
+    let c11 = c10 .before in
+    let c12 = c11 .before in
+    let c14 = c12 .before .before in
+    let a = c14 .args in
+    let s : sound (hubOf (c14 .args .hub .now)) ≡ true = sym (c12 .sound .ensures) ∙ not-false _ (c11 .if1 .left) in
+    let two = rw (c9 .total .ensures, c10 .settings .ensures) at (c6 .if2 .left) in
+    let eleven = rw (c10 .settings .ensures) at (c .before .before .if3 .left) in
+    let three = rw (c10 .settings .ensures) at (c .if4 .taken) in
     with-facts (a .hub .now) (a .lent) (a .id) _ (rw (s, two, eleven, le-leb _ _ three))
 
 peer-requires : tie.Need-peer-requires
@@ -64,22 +81,36 @@ peer-requires c κs = rw (c .before .before .before .before .before .before .bef
 returns-5 : tie.Need-returns-5
 unfolding first
 returns-5 c =
-    let a = c .before .before .before .before .before .before .before .before .before .before .before .before .before .before .before .before .before .args in
-    let s : sound (hubOf (c .before .before .before .before .before .before .before .before .before .before .before .before .before .before .before .before .before .args .hub .now)) ≡ true = sym (c .before .before .before .before .before .before .before .before .before .before .before .before .before .before .before .sound .ensures) ∙ not-false _ (c .before .before .before .before .before .before .before .before .before .before .before .before .before .before .if1 .left) in
-    let two = rw (c .before .before .before .before .before .before .before .before .before .before .before .before .total .ensures, c .before .before .before .before .before .before .before .before .before .before .before .before .before .settings .ensures) at (c .before .before .before .before .before .before .before .before .before .if2 .left) in
-    let eleven = rw (c .before .before .before .before .before .before .before .before .before .before .before .before .before .settings .ensures) at (c .before .before .before .before .before .if3 .left) in
-    let three = rw (c .before .before .before .before .before .before .before .before .before .before .before .before .before .settings .ensures) at (c .before .before .before .if4 .left) in
+    let c5 = c .before .before .before .before .before in
+    let c9 = c5 .before .before .before .before in
+    let c12 = c9 .before .before .before in
+    let c13 = c12 .before in
+    let c14 = c13 .before in
+    let c15 = c14 .before in
+    let c17 = c15 .before .before in
+    let a = c17 .args in
+    let s : sound (hubOf (c17 .args .hub .now)) ≡ true = sym (c15 .sound .ensures) ∙ not-false _ (c14 .if1 .left) in
+    let two = rw (c12 .total .ensures, c13 .settings .ensures) at (c9 .if2 .left) in
+    let eleven = rw (c13 .settings .ensures) at (c5 .if3 .left) in
+    let three = rw (c13 .settings .ensures) at (c .before .before .before .if4 .left) in
     let four = rw (c .before .before .peer .ensures) at (c .if5 .taken) in
     with-facts (a .hub .now) (a .lent) (a .id) _ (rw (s, two, eleven, lt-leb _ _ three, ne-eqb _ _ four))
 
 returns-6 : tie.Need-returns-6
 unfolding first
 returns-6 c =
-    let a = c .before .before .before .before .before .before .before .before .before .before .before .before .before .before .before .before .before .args in
-    let s : sound (hubOf (c .before .before .before .before .before .before .before .before .before .before .before .before .before .before .before .before .before .args .hub .now)) ≡ true = sym (c .before .before .before .before .before .before .before .before .before .before .before .before .before .before .before .sound .ensures) ∙ not-false _ (c .before .before .before .before .before .before .before .before .before .before .before .before .before .before .if1 .left) in
-    let two = rw (c .before .before .before .before .before .before .before .before .before .before .before .before .total .ensures, c .before .before .before .before .before .before .before .before .before .before .before .before .before .settings .ensures) at (c .before .before .before .before .before .before .before .before .before .if2 .left) in
-    let eleven = rw (c .before .before .before .before .before .before .before .before .before .before .before .before .before .settings .ensures) at (c .before .before .before .before .before .if3 .left) in
-    let three = rw (c .before .before .before .before .before .before .before .before .before .before .before .before .before .settings .ensures) at (c .before .before .before .if4 .left) in
+    let c5 = c .before .before .before .before .before in
+    let c9 = c5 .before .before .before .before in
+    let c12 = c9 .before .before .before in
+    let c13 = c12 .before in
+    let c14 = c13 .before in
+    let c15 = c14 .before in
+    let c17 = c15 .before .before in
+    let a = c17 .args in
+    let s : sound (hubOf (c17 .args .hub .now)) ≡ true = sym (c15 .sound .ensures) ∙ not-false _ (c14 .if1 .left) in
+    let two = rw (c12 .total .ensures, c13 .settings .ensures) at (c9 .if2 .left) in
+    let eleven = rw (c13 .settings .ensures) at (c5 .if3 .left) in
+    let three = rw (c13 .settings .ensures) at (c .before .before .before .if4 .left) in
     let four = rw (c .before .before .peer .ensures) at (c .if5 .left) in
     with-facts (a .hub .now) (a .lent) (a .id) _ (rw (s, two, eleven, lt-leb _ _ three, eq-eqb _ _ four))
 

@@ -24,7 +24,8 @@ returns-2 c =
 returns-3 : tie.Need-returns-3
 unfolding first
 returns-3 c =
-    let inside = rw (c .before .is-somewhere .ensures, c .before .before .section-of .ensures) at (not-false (c .before .is-somewhere .result) (c .if2 .left)) in
+    let inside = rw (c .before .is-somewhere .ensures, c .before .before .section-of .ensures)
+    at (not-false (c .before .is-somewhere .result) (c .if2 .left)) in
     rw (ne-eqb _ _ (c .before .before .before .if1 .left), inside)
 
 pub range-spec : {M : Type 1} → statement M

@@ -16,7 +16,8 @@ returns c =
     let a = c .before .before .before .args in
     let e = c .before .admitted .ensures .0 in
     space-facts (a .hub .now) (a .lent) (a .id) (a .size) (a .allowed) (a .offset) (a .width) _
-    (e ∙ sym (first-stops (admission (hubOf (a .hub .now)) (a .lent) (a .id)) (spaceRows (a .size) (a .allowed) (a .offset) (a .width)) (λ z. c .if1 .taken (e ∙ z))))
+    (e ∙ sym (first-stops (admission (hubOf (a .hub .now)) (a .lent) (a .id)) (spaceRows (a .size) (a .allowed) (a .offset)
+    (a .width)) (λ z. c .if1 .taken (e ∙ z))))
 
 space-requires : tie.Need-space-requires
 space-requires c κs = search needs
@@ -26,7 +27,8 @@ returns-2 c =
     let a = c .before .before .before .before .args in
     let e = c .before .before .admitted .ensures .0 in
     space-facts (a .hub .now) (a .lent) (a .id) (a .size) (a .allowed) (a .offset) (a .width) _
-    (c .space .ensures ∙ sym (first-goes-on (admission (hubOf (a .hub .now)) (a .lent) (a .id)) (spaceRows (a .size) (a .allowed) (a .offset) (a .width)) refl (sym e ∙ c .before .if1 .left)))
+    (c .space .ensures ∙ sym (first-goes-on (admission (hubOf (a .hub .now)) (a .lent) (a .id))
+    (spaceRows (a .size) (a .allowed) (a .offset) (a .width)) refl (sym e ∙ c .before .if1 .left)))
 
 pub space-refusal-spec : {M : Type 1} → statement M
 space-refusal-spec = tie.close (tie.spec admitted-requires returns space-requires returns-2)

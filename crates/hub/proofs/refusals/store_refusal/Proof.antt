@@ -20,14 +20,17 @@ returns c =
     let h = hubOf (a .hub .now) in
     let e = c .before .range-refusal .ensures .0 in
     store-facts (a .hub .now) (a .lent) (a .id) (a .offset) (a .length) _
-    (e ∙ sym (first-stops (admission h (a .lent) (a .id) ++ rangeRows (h .settings) (a .offset) (a .length)) (storeRows (h .settings) (a .id) (a .offset) (a .length)) (λ z. c .if1 .taken (e ∙ z))))
+    (e ∙ sym (first-stops (admission h (a .lent) (a .id) ++ rangeRows (h .settings) (a .offset) (a .length))
+    (storeRows (h .settings) (a .id) (a .offset) (a .length)) (λ z. c .if1 .taken (e ∙ z))))
 
 settings-requires : tie.Need-settings-requires
 settings-requires c κs = c .before .range-refusal .ensures .1 .0 (c .if1 .left) .room
 
 section-of-requires : tie.Need-section-of-requires
-section-of-requires c κs =
-    (rw (c .settings .ensures) (c .before .before .range-refusal .ensures .1 .0 (c .before .if1 .left) .numbers), c .before .before .range-refusal .ensures .1 .1 (c .before .if1 .left) .some)
+section-of-requires c κs = (
+  rw (c .settings .ensures) (c .before .before .range-refusal .ensures .1 .0 (c .before .if1 .left) .numbers),
+  c .before .before .range-refusal .ensures .1 .1 (c .before .if1 .left) .some,
+)
 
 may-store-requires : tie.Need-may-store-requires
 may-store-requires c κs = search needs
@@ -35,22 +38,44 @@ may-store-requires c κs = search needs
 returns-2 : tie.Need-returns-2
 unfolding first
 returns-2 c =
-    let a = c .before .before .before .before .before .before .before .args in
+    let c4 = c .before .before .before .before in
+    let c5 = c4 .before in
+    let c7 = c5 .before .before in
+    let a = c7 .args in
     let h = hubOf (a .hub .now) in
-    let e = c .before .before .before .before .before .range-refusal .ensures .0 in
-    let no = rw (c .before .may-store .ensures, c .before .before .section-of .ensures, c .before .before .before .settings .ensures) at (not-true (c .before .may-store .result) (c .if2 .taken)) in
+    let e = c5 .range-refusal .ensures .0 in
+    let no = rw (
+      c .before .may-store .ensures,
+      c .before .before .section-of .ensures,
+      c .before .before .before .settings .ensures,
+    ) at (not-true (c .before .may-store .result) (c .if2 .taken)) in
     store-facts (a .hub .now) (a .lent) (a .id) (a .offset) (a .length) _
-    (rw (first-goes-on (admission h (a .lent) (a .id) ++ rangeRows (h .settings) (a .offset) (a .length)) (storeRows (h .settings) (a .id) (a .offset) (a .length)) refl (sym e ∙ c .before .before .before .before .if1 .left), no))
+    (rw (
+      first-goes-on (admission h (a .lent) (a .id) ++ rangeRows (h .settings) (a .offset) (a .length))
+          (storeRows (h .settings) (a .id) (a .offset) (a .length)) refl (sym e ∙ c4 .if1 .left),
+      no,
+    ))
 
 returns-3 : tie.Need-returns-3
 unfolding first
 returns-3 c =
-    let a = c .before .before .before .before .before .before .before .args in
+    let c4 = c .before .before .before .before in
+    let c5 = c4 .before in
+    let c7 = c5 .before .before in
+    let a = c7 .args in
     let h = hubOf (a .hub .now) in
-    let e = c .before .before .before .before .before .range-refusal .ensures .0 in
-    let may = rw (c .before .may-store .ensures, c .before .before .section-of .ensures, c .before .before .before .settings .ensures) at (not-false (c .before .may-store .result) (c .if2 .left)) in
+    let e = c5 .range-refusal .ensures .0 in
+    let may = rw (
+      c .before .may-store .ensures,
+      c .before .before .section-of .ensures,
+      c .before .before .before .settings .ensures,
+    ) at (not-false (c .before .may-store .result) (c .if2 .left)) in
     store-facts (a .hub .now) (a .lent) (a .id) (a .offset) (a .length) _
-    (rw (first-goes-on (admission h (a .lent) (a .id) ++ rangeRows (h .settings) (a .offset) (a .length)) (storeRows (h .settings) (a .id) (a .offset) (a .length)) refl (sym e ∙ c .before .before .before .before .if1 .left), may))
+    (rw (
+      first-goes-on (admission h (a .lent) (a .id) ++ rangeRows (h .settings) (a .offset) (a .length))
+          (storeRows (h .settings) (a .id) (a .offset) (a .length)) refl (sym e ∙ c4 .if1 .left),
+      may,
+    ))
 
 pub store-refusal-spec : {M : Type 1} → statement M
 store-refusal-spec =

@@ -25,7 +25,8 @@ answered-requires c κs = search needs
 returns : tie.Need-returns
 returns c =
     let a = c .before .before .before .before .before .before .before .args in
-    let n = load-refusal (hubOf (a .hub .now)) (a .region .now) (a .id) (a .offset) (length (a .buffer .now)) ∙ sym (rw (c .before .before .before .region-lent .ensures) at (c .before .before .range-refusal .ensures .0)) in
+    let n = load-refusal (hubOf (a .hub .now)) (a .region .now) (a .id) (a .offset) (length (a .buffer .now))
+    ∙ sym (rw (c .before .before .before .region-lent .ensures) at (c .before .before .range-refusal .ensures .0)) in
     record {
       reply = c .answered .ensures ∙ reply-refused _ _ (c .before .before .range-refusal .result) n (c .before .if1 .taken);
       filled = λ z. absurd (c .before .if1 .taken (sym (ap (λ (r : Reply). r .number) (c .answered .ensures)) ∙ z));
@@ -48,8 +49,13 @@ same-length c = search needs
 returns-2 : tie.Need-returns-2
 unfolding effect
 returns-2 c =
-    let a = c .before .before .before .before .before .before .before .before .before .before .before .args in
-    let n = load-refusal (hubOf (a .hub .now)) (a .region .now) (a .id) (a .offset) (length (a .buffer .now)) ∙ sym (rw (c .before .before .before .before .before .before .before .region-lent .ensures) at (c .before .before .before .before .before .before .range-refusal .ensures .0)) ∙ c .before .before .before .before .before .if1 .left in
+    let c5 = c .before .before .before .before .before in
+    let c6 = c5 .before in
+    let c7 = c6 .before in
+    let c11 = c7 .before .before .before .before in
+    let a = c11 .args in
+    let n = load-refusal (hubOf (a .hub .now)) (a .region .now) (a .id) (a .offset) (length (a .buffer .now))
+    ∙ sym (rw (c7 .region-lent .ensures) at (c6 .range-refusal .ensures .0)) ∙ c5 .if1 .left in
     record {
       reply = c .answered2 .ensures ∙ reply-accepted _ _ 0 n refl;
       filled = λ z. c .before .before .before .load .ensures ∙ sym (ap (λ (o : Outcome). o .loaded) (accepted-effect _ _ n));

@@ -26,7 +26,8 @@ answered-requires c κs = search needs
 returns : tie.Need-returns
 returns c =
     let a = c .before .before .before .before .before .before .before .args in
-    let n = store-refusal (hubOf (a .hub .now)) (a .region .now) (a .id) (a .offset) (a .stored .now) ∙ sym (rw (c .before .before .before .region-lent .ensures) at (c .before .before .store-refusal .ensures .0)) in
+    let n = store-refusal (hubOf (a .hub .now)) (a .region .now) (a .id) (a .offset) (a .stored .now)
+    ∙ sym (rw (c .before .before .before .region-lent .ensures) at (c .before .before .store-refusal .ensures .0)) in
     record {
       reply = c .answered .ensures ∙ reply-refused _ _ (c .before .before .store-refusal .result) n (c .before .if1 .taken);
       region = sym (ap (λ (o : Outcome). o .world) (step-refused _ _ (c .before .before .store-refusal .result) n (c .before .if1 .taken)));
@@ -48,8 +49,13 @@ same-length c = search needs
 returns-2 : tie.Need-returns-2
 unfolding effect runAll run
 returns-2 c =
-    let a = c .before .before .before .before .before .before .before .before .before .before .before .args in
-    let n = store-refusal (hubOf (a .hub .now)) (a .region .now) (a .id) (a .offset) (a .stored .now) ∙ sym (rw (c .before .before .before .before .before .before .before .region-lent .ensures) at (c .before .before .before .before .before .before .store-refusal .ensures .0)) ∙ c .before .before .before .before .before .if1 .left in
+    let c5 = c .before .before .before .before .before in
+    let c6 = c5 .before in
+    let c7 = c6 .before in
+    let c11 = c7 .before .before .before .before in
+    let a = c11 .args in
+    let n = store-refusal (hubOf (a .hub .now)) (a .region .now) (a .id) (a .offset) (a .stored .now)
+    ∙ sym (rw (c7 .region-lent .ensures) at (c6 .store-refusal .ensures .0)) ∙ c5 .if1 .left in
     record {
       reply = c .answered2 .ensures ∙ reply-accepted _ _ 0 n refl;
       region =

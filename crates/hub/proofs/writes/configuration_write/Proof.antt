@@ -49,7 +49,9 @@ write-requires c κs =
 
 put-peer-requires : tie.Need-put-peer-requires
 put-peer-requires c κs =
-    let f = c .before .before .before .before .before .before .before .space-refusal .ensures .1 .0 (c .before .before .before .before .before .before .if1 .left) in
+    let c6 = c .before .before .before .before .before .before in
+    let c7 = c6 .before in
+    let f = c7 .space-refusal .ensures .1 .0 (c6 .if1 .left) in
     f .known
 
 answered-requires-2 : tie.Need-answered-requires-2
@@ -61,12 +63,19 @@ same-length-2 c = search needs
 returns-2 : tie.Need-returns-2
 unfolding lentTo accessOf effect runAll run
 returns-2 c =
-    let a = c .before .before .before .before .before .before .before .before .before .before .before .before .before .before .before .args in
+    let c4 = c .before .before .before .before in
+    let c6 = c4 .before .before in
+    let c8 = c6 .before .before in
+    let c10 = c8 .before .before in
+    let c11 = c10 .before in
+    let c13 = c11 .before .before in
+    let c15 = c13 .before .before in
+    let a = c15 .args in
     changes-accepted (a .hub .now) _ _ _ _
     (configuration-checked (a .hub .now) (a .id) (Act.configurationWrite (a .offset) (a .width) (a .value)) (a .offset) (a .width) _ _ refl refl
-    (c .before .before .before .before .before .before .before .before .before .before .before .before .before .nothing-lent .ensures) (c .before .before .before .before .before .before .before .before .before .before .before .space-refusal .ensures .0))
-    (c .before .before .before .before .before .before .before .before .before .before .if1 .left) (c .answered2 .ensures) (λ region. refl)
-    (λ region. rw (c .before .before .before .put-peer .ensures, c .before .before .before .before .write .ensures, c .before .before .before .before .before .before .before .before .settings .ensures, c .before .before .before .before .before .before .peer .ensures))
+    (c13 .nothing-lent .ensures) (c11 .space-refusal .ensures .0))
+    (c10 .if1 .left) (c .answered2 .ensures) (λ region. refl)
+    (λ region. rw (c .before .before .before .put-peer .ensures, c4 .write .ensures, c8 .settings .ensures, c6 .peer .ensures))
 
 pub configuration-write-spec : {M : Type 1} → statement M
 configuration-write-spec =

@@ -24,7 +24,9 @@ same-length-2 c = search needs
 
 returns-2 : tie.Need-returns-2
 unfolding replied allDelivered
-returns-2 c = record { bytes = rw (eq-eqb _ _ (c .before .before .before .before .if1 .left)) (c .before .before .put-one .ensures); count = rw (eq-eqb _ _ (c .before .before .before .before .if1 .left)); fits = omega arith }
+returns-2 c =
+    let c4 = c .before .before .before .before in
+    record { bytes = rw (eq-eqb _ _ (c4 .if1 .left)) (c .before .before .put-one .ensures); count = rw (eq-eqb _ _ (c4 .if1 .left)); fits = omega arith }
 
 pub done-spec : {M : Type 1} → statement M
 done-spec =

@@ -63,15 +63,19 @@ loop-less c = omega arith
 
 loop-again : tie.Need-loop-again Inv-loop μ-loop
 loop-again c =
-    let l = c .before .before .before .before .before .before .loop in
-    let out₀ = c .before .before .before .before .before .before .before .before .before .before .before .args .out .now in
-    let targets = c .before .before .before .before .before .before .before .before .before .before .before .args .list .targets in
-    let v = c .before .before .before .before .before .before .before .before .before .before .before .args .list .vector in
-    let hub = hubOf (c .before .before .before .before .before .before .before .before .before .before .before .args .hub .now) in
+    let c6 = c .before .before .before .before .before .before in
+    let c11 = c6 .before .before .before .before .before in
+    let l = c6 .loop in
+    let out₀ = c11 .args .out .now in
+    let targets = c11 .args .list .targets in
+    let v = c11 .args .list .vector in
+    let hub = hubOf (c11 .args .hub .now) in
     let n : length (allDelivered (firstOf hub v targets (l .i))) ≡ l .at = length-first hub v targets (l .i) (omega arith) ∙ sym (l .inv .4) in
     let part = take (length (l .out) - l .at) (drop (l .at) (l .out)) in
-    let rest : c .before .before .put-delivery .last .0 ≡ over (delivered (sentAt hub v (getD targets (l .i) 0))) part = rw (← (c .before .before .before .sent .ensures)) (c .before .before .put-delivery .ensures) in
-    let all = over-then (l .at) (allDelivered (firstOf hub v targets (l .i))) out₀ n (omega arith) (l .out) _ _ (l .inv .6) rest ∙ ap (λ (x : List ℕ). over x out₀) (first-more hub v targets (l .i) (omega arith)) in
+    let rest : c .before .before .put-delivery .last .0 ≡ over (delivered (sentAt hub v (getD targets (l .i) 0))) part =
+    rw (← (c .before .before .before .sent .ensures)) (c .before .before .put-delivery .ensures) in
+    let all = over-then (l .at) (allDelivered (firstOf hub v targets (l .i))) out₀ n (omega arith) (l .out) _ _ (l .inv .6) rest
+    ∙ ap (λ (x : List ℕ). over x out₀) (first-more hub v targets (l .i) (omega arith)) in
     let next : length (allDelivered (firstOf hub v targets (l .i + 1))) ≡ 17 * (l .i + 1) = length-first hub v targets (l .i + 1) (omega arith) in
     (omega arith, omega arith, omega arith, omega arith, omega arith, ap length all ∙ length-over _ out₀ (omega arith), all)
 

@@ -29,8 +29,10 @@ same-length c = search needs
 returns : tie.Need-returns
 unfolding delivered
 returns c =
-    let a = c .before .before .before .before .before .before .before .before .before .args in
-    over-then 1 (0x83 ∷ []) (a .out .now) (refl) (omega arith) _ (parts (a .d)) _ (c .before .before .before .before .before .before .put-one .ensures) (c .before .before .put-parts .ensures)
+    let c6 = c .before .before .before .before .before .before in
+    let c9 = c6 .before .before .before in
+    let a = c9 .args in
+    over-then 1 (0x83 ∷ []) (a .out .now) (refl) (omega arith) _ (parts (a .d)) _ (c6 .put-one .ensures) (c .before .before .put-parts .ensures)
 
 pub put-delivery-spec : {M : Type 1} → statement M
 put-delivery-spec =

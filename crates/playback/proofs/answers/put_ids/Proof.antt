@@ -27,8 +27,11 @@ same-length c = search needs
 
 returns : tie.Need-returns
 returns c =
-    let a = c .before .before .before .before .before .before .before .before .before .args in
-    over-then 2 (bytes 2 (a .target)) (a .out .now) (length-bytes 2 _) (omega arith) _ (bytes 2 (a .vector)) _ (c .before .before .before .before .before .before .put-two .ensures) (c .before .before .put-two2 .ensures)
+    let c6 = c .before .before .before .before .before .before in
+    let c9 = c6 .before .before .before in
+    let a = c9 .args in
+    over-then 2 (bytes 2 (a .target)) (a .out .now) (length-bytes 2 _) (omega arith) _ (bytes 2 (a .vector)) _
+    (c6 .put-two .ensures) (c .before .before .put-two2 .ensures)
 
 pub put-ids-spec : {M : Type 1} → statement M
 put-ids-spec =

@@ -27,8 +27,11 @@ same-length c = search needs
 
 returns : tie.Need-returns
 returns c =
-    let a = c .before .before .before .before .before .before .before .before .before .args in
-    over-then 8 (bytes 8 (a .address)) (a .out .now) (length-bytes 8 _) (omega arith) _ (bytes 4 (a .payload)) _ (c .before .before .before .before .before .before .put-eight .ensures) (c .before .before .put-four .ensures)
+    let c6 = c .before .before .before .before .before .before in
+    let c9 = c6 .before .before .before in
+    let a = c9 .args in
+    over-then 8 (bytes 8 (a .address)) (a .out .now) (length-bytes 8 _) (omega arith) _ (bytes 4 (a .payload)) _
+    (c6 .put-eight .ensures) (c .before .before .put-four .ensures)
 
 pub put-message-spec : {M : Type 1} → statement M
 put-message-spec =

@@ -29,8 +29,12 @@ same-length c = search needs
 
 returns : tie.Need-returns
 returns c =
-    let a = c .before .before .before .before .before .before .before .before .before .args in
-    over-then 4 (bytes 2 (a .d .target .0) ++ bytes 2 (a .d .vector .0)) (a .out .now) (simp (length-append, length-bytes)) (omega arith) _ (bytes 8 (a .d .address) ++ bytes 4 (a .d .payload)) _ (c .before .before .before .before .before .before .put-ids .ensures) (c .before .before .put-message .ensures)
+    let c6 = c .before .before .before .before .before .before in
+    let c9 = c6 .before .before .before in
+    let a = c9 .args in
+    over-then 4 (bytes 2 (a .d .target .0) ++ bytes 2 (a .d .vector .0)) (a .out .now) (simp (length-append, length-bytes))
+    (omega arith) _ (bytes 8 (a .d .address) ++ bytes 4 (a .d .payload)) _ (c6 .put-ids .ensures)
+    (c .before .before .put-message .ensures)
 
 pub put-parts-spec : {M : Type 1} → statement M
 put-parts-spec =

@@ -53,11 +53,16 @@ same-length-2 c = search needs
 returns-2 : tie.Need-returns-2
 unfolding replied
 returns-2 c =
-    let a = c .before .before .before .before .before .before .before .before .before .before .before .before .args in
+    let c7 = c .before .before .before .before .before .before .before in
+    let c9 = c7 .before .before in
+    let c12 = c9 .before .before .before in
+    let a = c12 .args in
     let ds = listed (hubOf (a .hub .now)) (a .list) in
-    let all = over-then 1 (0x81 ∷ []) (a .out .now) refl (omega arith) _ (allDelivered ds) _ (c .before .before .before .before .before .before .before .put-one .ensures) (c .before .before .before .put-deliveries .ensures) in
-    let n : 1 + 17 * a .list .count ≡ suc (length (allDelivered ds)) = rw (length-all ds, ← counted (hubOf (a .hub .now)) (a .list) (c .before .before .before .before .before .before .before .before .before .before .before .before .pre .0)) (omega arith) in
-    record { bytes = rw (eq-eqb _ _ (c .before .before .before .before .before .before .before .before .before .if1 .left)) all; count = rw (eq-eqb _ _ (c .before .before .before .before .before .before .before .before .before .if1 .left)) n; fits = omega arith }
+    let all = over-then 1 (0x81 ∷ []) (a .out .now) refl (omega arith) _ (allDelivered ds) _ (c7 .put-one .ensures)
+    (c .before .before .before .put-deliveries .ensures) in
+    let n : 1 + 17 * a .list .count ≡ suc (length (allDelivered ds)) =
+    rw (length-all ds, ← counted (hubOf (a .hub .now)) (a .list) (c12 .pre .0)) (omega arith) in
+    record { bytes = rw (eq-eqb _ _ (c9 .if1 .left)) all; count = rw (eq-eqb _ _ (c9 .if1 .left)) n; fits = omega arith }
 
 pub served-spec : {M : Type 1} → statement M
 served-spec =

@@ -44,10 +44,13 @@ same-length-2 c = search needs
 returns-2 : tie.Need-returns-2
 unfolding replied
 returns-2 c =
-    let a = c .before .before .before .before .before .before .before .before .before .before .args in
-    let all = over-then 1 (0x82 ∷ []) (a .out .now) refl (omega arith) _ (bytes 4 (a .x)) _ (c .before .before .before .before .before .before .put-one .ensures) (c .before .before .put-four .ensures) in
+    let c6 = c .before .before .before .before .before .before in
+    let c8 = c6 .before .before in
+    let c10 = c8 .before .before in
+    let a = c10 .args in
+    let all = over-then 1 (0x82 ∷ []) (a .out .now) refl (omega arith) _ (bytes 4 (a .x)) _ (c6 .put-one .ensures) (c .before .before .put-four .ensures) in
     let n : 5 ≡ length (valued (a .x)) = ap suc (sym (length-bytes 4 (a .x))) in
-    record { bytes = rw (eq-eqb _ _ (c .before .before .before .before .before .before .before .before .if1 .left)) all; count = rw (eq-eqb _ _ (c .before .before .before .before .before .before .before .before .if1 .left)) n; fits = omega arith }
+    record { bytes = rw (eq-eqb _ _ (c8 .if1 .left)) all; count = rw (eq-eqb _ _ (c8 .if1 .left)) n; fits = omega arith }
 
 pub value-spec : {M : Type 1} → statement M
 value-spec =

@@ -30,8 +30,16 @@ same-length c = search needs
 returns : tie.Need-returns
 unfolding readsOnly
 returns c =
-    let a = c .before .before .before .before .before .before .before .before .before .before .before .args in
-    λ region. rw (← (c .before .before .before .before .before .before .before .id .ensures), ← (c .before .before .before .before .before .before .offset .ensures), ← (c .before .before .before .before .before .width .ensures)) (reads-answer (a .hub .now) region (a .out .now) _ (call (c .before .before .before .before .before .before .before .id .result) (Act.configurationRead (c .before .before .before .before .before .before .offset .result) (c .before .before .before .before .before .width .result))) _ _ refl (c .before .before .before .before .configuration-read .ensures) (c .before .before .value .ensures))
+    let c4 = c .before .before .before .before in
+    let c5 = c4 .before in
+    let c6 = c5 .before in
+    let c7 = c6 .before in
+    let c11 = c7 .before .before .before .before in
+    let a = c11 .args in
+    λ region. rw (← (c7 .id .ensures), ← (c6 .offset .ensures), ← (c5 .width .ensures))
+    (reads-answer (a .hub .now) region (a .out .now) _
+    (call (c7 .id .result) (Act.configurationRead (c6 .offset .result) (c5 .width .result))) _ _ refl
+    (c4 .configuration-read .ensures) (c .before .before .value .ensures))
 
 pub configuration-read-spec : {M : Type 1} → statement M
 configuration-read-spec =

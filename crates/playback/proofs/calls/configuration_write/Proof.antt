@@ -37,8 +37,17 @@ same-length-2 c = search needs
 returns : tie.Need-returns
 unfolding lentTo mayRing
 returns c =
-    let a = c .before .before .before .before .before .before .before .before .before .before .before .before .before .before .before .args in
-    λ region. rw (← (c .before .before .before .before .before .before .before .before .before .id .ensures), ← (c .before .before .before .before .before .before .before .before .offset .ensures), ← (c .before .before .before .before .before .before .before .width .ensures), ← (c .before .before .before .before .before .before .before .before .before .before .before .four .ensures)) (changes-answer (a .hub .now) region (a .out .now) _ (call (c .before .before .before .before .before .before .before .before .before .id .result) (Act.configurationWrite (c .before .before .before .before .before .before .before .before .offset .result) (c .before .before .before .before .before .before .before .width .result) (c .before .before .before .before .before .before .before .before .before .before .before .four .result))) _ _ _ refl refl (c .before .before .before .before .before .before .configuration-write .ensures) (c .before .before .done .ensures))
+    let c6 = c .before .before .before .before .before .before in
+    let c7 = c6 .before in
+    let c8 = c7 .before in
+    let c9 = c8 .before in
+    let c11 = c9 .before .before in
+    let c15 = c11 .before .before .before .before in
+    let a = c15 .args in
+    λ region. rw (← (c9 .id .ensures), ← (c8 .offset .ensures), ← (c7 .width .ensures), ← (c11 .four .ensures))
+    (changes-answer (a .hub .now) region (a .out .now) _
+    (call (c9 .id .result) (Act.configurationWrite (c8 .offset .result) (c7 .width .result) (c11 .four .result))) _ _ _ refl
+    refl (c6 .configuration-write .ensures) (c .before .before .done .ensures))
 
 pub configuration-write-spec : {M : Type 1} → statement M
 configuration-write-spec =

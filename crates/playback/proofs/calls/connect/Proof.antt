@@ -28,8 +28,12 @@ same-length-2 c = search needs
 returns : tie.Need-returns
 unfolding lentTo mayRing
 returns c =
-    let a = c .before .before .before .before .before .before .before .before .before .before .before .before .args in
-    λ region. rw (← (c .before .before .before .before .before .before .before .id .ensures)) (changes-answer (a .hub .now) region (a .out .now) _ (call (c .before .before .before .before .before .before .before .id .result) (Act.connect)) _ _ _ refl refl (c .before .before .before .before .before .before .connect .ensures) (c .before .before .done .ensures))
+    let c6 = c .before .before .before .before .before .before in
+    let c7 = c6 .before in
+    let c12 = c7 .before .before .before .before .before in
+    let a = c12 .args in
+    λ region. rw (← (c7 .id .ensures)) (changes-answer (a .hub .now) region (a .out .now) _
+    (call (c7 .id .result) (Act.connect)) _ _ _ refl refl (c6 .connect .ensures) (c .before .before .done .ensures))
 
 pub connect-spec : {M : Type 1} → statement M
 connect-spec =

@@ -37,11 +37,16 @@ same-length c = search needs
 returns : tie.Need-returns
 unfolding readsOnly
 returns c =
-    let a = c .before .before .before .before .before .before .before .before .before .before .before .before .before .before .args in
-    let buffer = c .before .before .before .before .before .before .load .last .1 .1 .1 .1 .0 in
-    let one : length buffer ≡ 1 = c .before .before .before .before .before .before .load .kept .1 .1 .1 .1 .0 in
+    let c6 = c .before .before .before .before .before .before in
+    let c8 = c6 .before .before in
+    let c9 = c8 .before in
+    let c14 = c9 .before .before .before .before .before in
+    let a = c14 .args in
+    let buffer = c6 .load .last .1 .1 .1 .1 .0 in
+    let one : length buffer ≡ 1 = c6 .load .kept .1 .1 .1 .1 .0 in
     let w = rw (c .before .before .before .wide .ensures) at (c .before .before .value .ensures) in
-    rw (← (c .before .before .before .before .before .before .before .before .before .id .ensures), ← (c .before .before .before .before .before .before .before .before .shared-offset .ensures)) (loads-answer (a .hub .now) (a .region .now) (a .out .now) _ (call (c .before .before .before .before .before .before .before .before .before .id .result) (Act.load (c .before .before .before .before .before .before .before .before .shared-offset .result) 1)) _ _ buffer _ refl one (c .before .before .before .before .before .before .load .ensures) w)
+    rw (← (c9 .id .ensures), ← (c8 .shared-offset .ensures)) (loads-answer (a .hub .now) (a .region .now) (a .out .now) _
+    (call (c9 .id .result) (Act.load (c8 .shared-offset .result) 1)) _ _ buffer _ refl one (c6 .load .ensures) w)
 
 pub load-spec : {M : Type 1} → statement M
 load-spec =

@@ -34,8 +34,16 @@ same-length-2 c = search needs
 returns : tie.Need-returns
 unfolding lentTo mayRing
 returns c =
-    let a = c .before .before .before .before .before .before .before .before .before .before .before .before .before .before .args in
-    λ region. rw (← (c .before .before .before .before .before .before .before .before .id .ensures), ← (c .before .before .before .before .before .before .before .offset .ensures), ← (c .before .before .before .before .before .before .before .before .before .before .four .ensures)) (changes-answer (a .hub .now) region (a .out .now) _ (call (c .before .before .before .before .before .before .before .before .id .result) (Act.msixWrite (c .before .before .before .before .before .before .before .offset .result) 4 (c .before .before .before .before .before .before .before .before .before .before .four .result))) _ _ _ refl refl (c .before .before .before .before .before .before .msix-write .ensures) (c .before .before .done .ensures))
+    let c6 = c .before .before .before .before .before .before in
+    let c7 = c6 .before in
+    let c8 = c7 .before in
+    let c10 = c8 .before .before in
+    let c14 = c10 .before .before .before .before in
+    let a = c14 .args in
+    λ region. rw (← (c8 .id .ensures), ← (c7 .offset .ensures), ← (c10 .four .ensures))
+    (changes-answer (a .hub .now) region (a .out .now) _
+    (call (c8 .id .result) (Act.msixWrite (c7 .offset .result) 4 (c10 .four .result))) _ _ _ refl refl
+    (c6 .msix-write .ensures) (c .before .before .done .ensures))
 
 pub msix-write-spec : {M : Type 1} → statement M
 msix-write-spec =

@@ -45,9 +45,15 @@ same-length-2 c = search needs
 returns : tie.Need-returns
 unfolding mayRing
 returns c =
-    let a = c .before .before .before .before .before .before .before .before .before .before .before .before .before .before .before .args in
+    let c6 = c .before .before .before .before .before .before in
+    let c8 = c6 .before .before in
+    let c9 = c8 .before in
+    let c15 = c9 .before .before .before .before .before .before in
+    let a = c15 .args in
     let one : take (8 - 7) (drop 7 (a .fields .now)) ≡ field 7 1 (a .fields .now) ∷ [] = one-part 7 (a .fields .now) (omega arith) in
-    rw (← (c .before .before .before .before .before .before .before .before .before .id .ensures), ← (c .before .before .before .before .before .before .before .before .shared-offset .ensures), ← one) (stores-answer (a .hub .now) (a .region .now) (a .out .now) _ (call (c .before .before .before .before .before .before .before .before .before .id .result) (Act.store (c .before .before .before .before .before .before .before .before .shared-offset .result) _)) _ _ _ refl (c .before .before .before .before .before .before .store .ensures) (c .before .before .done .ensures))
+    rw (← (c9 .id .ensures), ← (c8 .shared-offset .ensures), ← one) (stores-answer (a .hub .now) (a .region .now)
+    (a .out .now) _ (call (c9 .id .result) (Act.store (c8 .shared-offset .result) _)) _ _ _ refl (c6 .store .ensures)
+    (c .before .before .done .ensures))
 
 pub store-spec : {M : Type 1} → statement M
 store-spec =

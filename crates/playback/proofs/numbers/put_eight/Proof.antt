@@ -38,8 +38,11 @@ same-length c = search needs
 
 returns : tie.Need-returns
 returns c =
-    let a = c .before .before .before .before .before .before .before .before .before .args in
-    over-then 4 (bytes 4 (a .x % 4294967296)) (a .out .now) (length-bytes 4 _) (omega arith) _ (bytes 4 (a .x / 4294967296 % 4294967296)) _ (c .before .before .before .before .before .before .put-four .ensures) (c .before .before .put-four2 .ensures)
+    let c6 = c .before .before .before .before .before .before in
+    let c9 = c6 .before .before .before in
+    let a = c9 .args in
+    over-then 4 (bytes 4 (a .x % 4294967296)) (a .out .now) (length-bytes 4 _) (omega arith) _
+    (bytes 4 (a .x / 4294967296 % 4294967296)) _ (c6 .put-four .ensures) (c .before .before .put-four2 .ensures)
     ∙ ap (λ (l : List ℕ). over l (a .out .now)) (bytes-split 4 4 (a .x))
 
 pub put-eight-spec : {M : Type 1} → statement M

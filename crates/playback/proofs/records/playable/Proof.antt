@@ -24,7 +24,8 @@ go s ok false e = (rw (too-large s e), (λ f. never f, λ f. too-large s e))
 
 returns : tie.Need-returns
 returns c =
-    let n : setUpNumber (c .before .before .args .s) ≡ 1 = not-accepted (c .before .before .args .s) (sym (c .before .accepted .ensures) ∙ not-true _ (c .if1 .taken)) in
+    let n : setUpNumber (c .before .before .args .s) ≡ 1 = not-accepted (c .before .before .args .s)
+    (sym (c .before .accepted .ensures) ∙ not-true _ (c .if1 .taken)) in
     (rw n, (λ e. never e, λ e. n))
 
 total-requires : tie.Need-total-requires

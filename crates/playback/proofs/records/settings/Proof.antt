@@ -49,7 +49,23 @@ cast-t16 : tie.Need-cast-t16
 cast-t16 c = search needs
 
 returns : tie.Need-returns
-returns c = rw (c .before .before .before .before .before .before .before .before .two .ensures, c .before .before .before .before .before .before .before .two2 .ensures, c .before .before .before .before .before .before .four .ensures, c .before .before .before .before .before .eight .ensures, c .before .before .before .before .eight2 .ensures, c .before .before .before .eight3 .ensures, c .before .before .two3 .ensures, c .before .two4 .ensures, c .two5 .ensures)
+returns c =
+    let c4 = c .before .before .before .before in
+    let c5 = c4 .before in
+    let c6 = c5 .before in
+    let c7 = c6 .before in
+    let c8 = c7 .before in
+    rw (
+      c8 .two .ensures,
+      c7 .two2 .ensures,
+      c6 .four .ensures,
+      c5 .eight .ensures,
+      c4 .eight2 .ensures,
+      c .before .before .before .eight3 .ensures,
+      c .before .before .two3 .ensures,
+      c .before .two4 .ensures,
+      c .two5 .ensures,
+    )
 
 pub settings-spec : {M : Type 1} → statement M
 settings-spec =

@@ -25,7 +25,11 @@ unfolding below
 loop-holds c = ((c .next-absent .ensures .most, c .next-absent .ensures .absent), present-more _ _ _ _ (c .next-absent .ensures))
 
 gap-from-requires : tie.Need-gap-from-requires Inv-loop μ-loop
-gap-from-requires c κs = record { below = c .loop-test .taken; known = c .before .before .before .before .pre; absent = c .before .loop .inv .0 .1 (c .loop-test .taken) }
+gap-from-requires c κs = record {
+  below = c .loop-test .taken;
+  known = c .before .before .before .before .pre;
+  absent = c .before .loop .inv .0 .1 (c .loop-test .taken);
+}
 
 gap-reset-requires : tie.Need-gap-reset-requires Inv-loop μ-loop
 gap-reset-requires c κs = c .gap-from .ensures
@@ -38,7 +42,11 @@ loop-less c = omega (arith, c .before .before .gap-from .ensures .some, c .befor
 
 loop-again : tie.Need-loop-again Inv-loop μ-loop
 loop-again c =
-    ((c .next-absent2 .ensures .most, c .next-absent2 .ensures .absent), rw (c .before .gap-reset .ensures) (absent-more _ _ _ _ _ _ (c .before .before .gap-from .ensures) (c .next-absent2 .ensures) (c .before .before .before .before .loop .inv .1)))
+    let c4 = c .before .before .before .before in (
+      (c .next-absent2 .ensures .most, c .next-absent2 .ensures .absent),
+      rw (c .before .gap-reset .ensures)
+          (absent-more _ _ _ _ _ _ (c .before .before .gap-from .ensures) (c .next-absent2 .ensures) (c4 .loop .inv .1)),
+    )
 
 returns : tie.Need-returns Inv-loop μ-loop
 returns c =

@@ -29,7 +29,9 @@ peer-requires-2 : tie.Need-peer-requires-2 Inv-loop μ-loop
 peer-requires-2 c κs = omega (arith, c .before .stands .ensures .yes (c .if1 .taken) .0, c .before .before .loop .inv .known)
 
 add-t9 : tie.Need-add-t9 Inv-loop μ-loop
-add-t9 c = omega (arith, counted _ _ _ (c .before .before .before .stands .ensures .yes (c .before .before .if1 .taken) .0) (c .before .before .before .before .loop .inv .known))
+add-t9 c =
+    let c4 = c .before .before .before .before in
+    omega (arith, counted _ _ _ (c .before .before .before .stands .ensures .yes (c .before .before .if1 .taken) .0) (c4 .loop .inv .known))
 
 together-requires : tie.Need-together-requires Inv-loop μ-loop
 together-requires c κs = search needs

@@ -29,8 +29,11 @@ loop-less c = omega (arith, c .before .stands .ensures .yes (c .if1 .taken) .0)
 
 loop-again : tie.Need-loop-again Inv-loop μ-loop
 loop-again c =
-    let t = c .before .stands .ensures .yes (c .if1 .taken) in
-    ((omega (arith, c .before .before .loop .inv .0), omega (arith, t .0)), λ k l h. by-equal k (c .before .before .loop .i) (λ (q : k ≡ c .before .before .loop .i). rw q (t .1)) (λ d. c .before .before .loop .inv .1 k l (omega arith)))
+    let t = c .before .stands .ensures .yes (c .if1 .taken) in (
+      (omega (arith, c .before .before .loop .inv .0), omega (arith, t .0)),
+      λ k l h. by-equal k (c .before .before .loop .i)
+          (λ (q : k ≡ c .before .before .loop .i). rw q (t .1)) (λ d. c .before .before .loop .inv .1 k l (omega arith)),
+    )
 
 returns : tie.Need-returns Inv-loop μ-loop
 returns c =

@@ -15,11 +15,17 @@ run-sound-requires c κs = c .before .before .before .before .before .before .be
 
 returns : tie.Need-returns
 returns c =
-    scan-changed _ _ _ (c .before .before .before .before .before .before .before .before .before .pre .0) (c .before .before .before .before .before .before .before .before .before .pre .1) _ _ (rw (c .run-sound .ensures, c .before .before .before .before .before .peer-reset .ensures, c .before .before .before .before .before .before .before .peer .ensures)) (rw (c .before .before .before .before .before .before .before .peer .ensures))
+    let c5 = c .before .before .before .before .before in
+    let c7 = c5 .before .before in
+    let c9 = c7 .before .before in
+    scan-changed _ _ _ (c9 .pre .0) (c9 .pre .1) _ _ (rw (c .run-sound .ensures, c5 .peer-reset .ensures, c7 .peer .ensures)) (rw (c7 .peer .ensures))
 
 returns-2 : tie.Need-returns-2
 returns-2 c =
-    scan-same _ _ _ (c .before .before .before .before .before .before .before .before .pre .0) (c .before .before .before .before .before .before .before .before .pre .1) _ _ (rw (c .before .before .before .before .peer-reset .ensures, c .before .before .before .before .before .before .peer .ensures)) (rw (c .before .before .before .before .before .before .peer .ensures)) (unchanged _ _ (c .if1 .left))
+    let c4 = c .before .before .before .before in
+    let c6 = c4 .before .before in
+    let c8 = c6 .before .before in
+    scan-same _ _ _ (c8 .pre .0) (c8 .pre .1) _ _ (rw (c4 .peer-reset .ensures, c6 .peer .ensures)) (rw (c6 .peer .ensures)) (unchanged _ _ (c .if1 .left))
 
 pub scan-peer-spec : {M : Type 1} → statement M
 scan-peer-spec =

@@ -30,10 +30,14 @@ mul-result c = omega (arith, addable-facts _ (c .before .before .before .before 
 returns : tie.Need-returns
 unfolding accepted every total
 returns c =
-    let s = c .before .before .before .before .before .before .before .before .before .before .before .before .before .before .before .before .before .before .before .args .s in
-    let one : 1 ≤ total s = omega (arith, addable-facts s (c .before .before .before .before .before .before .before .before .before .before .before .before .before .before .before .before .before .before .before .pre)) in
-    let most : total s ≤ 2 ^ 47 = omega (arith, addable-facts s (c .before .before .before .before .before .before .before .before .before .before .before .before .before .before .before .before .before .before .before .pre)) in
-    rw (c .before .before .before .before .before .before .before .before .before .before .before .before .before .before .before .before .max-peers .ensures, c .before .before .before .before .before .before .before .before .before .before .before .before .before .max-vectors .ensures, c .before .before .before .before .before .before .before .before .before .before .before .before .before .before .before .before .before .before .sum .ensures, base-test (s .base) (total s) one most)
+    let c13 = c .before .before .before .before .before .before .before .before .before .before .before .before .before in
+    let c16 = c13 .before .before .before in
+    let c18 = c16 .before .before in
+    let c19 = c18 .before in
+    let s = c19 .args .s in
+    let one : 1 ≤ total s = omega (arith, addable-facts s (c19 .pre)) in
+    let most : total s ≤ 2 ^ 47 = omega (arith, addable-facts s (c19 .pre)) in
+    rw (c16 .max-peers .ensures, c13 .max-vectors .ensures, c18 .sum .ensures, base-test (s .base) (total s) one most)
 
 pub tested-spec : {M : Type 1} → statement M
 tested-spec =

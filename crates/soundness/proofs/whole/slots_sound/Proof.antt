@@ -40,8 +40,10 @@ peer-reset-requires c κs = search needs
 
 returns-2 : tie.Need-returns-2
 returns-2 c =
-    rw (c .peer-reset .ensures, c .before .before .before .before .see-peers .ensures .reset, c .before .run-sound2 .ensures, one-run)
-    (none-joined _ _ (c .before .before .before .before .before .before .pre) (c .before .before .before .before .see-peers .ensures .none (c .before .before .if2 .taken)))
+    let c4 = c .before .before .before .before in
+    let c6 = c4 .before .before in
+    rw (c .peer-reset .ensures, c4 .see-peers .ensures .reset, c .before .run-sound2 .ensures, one-run)
+    (none-joined _ _ (c6 .pre) (c4 .see-peers .ensures .none (c .before .before .if2 .taken)))
 
 mixed-sound-requires : tie.Need-mixed-sound-requires
 mixed-sound-requires c κs = (c .before .before .before .before .pre, (c .before .before .see-peers .ensures, c .before .if1 .left))
@@ -52,4 +54,5 @@ returns-3 c = search needs
 pub slots-sound-spec : {M : Type 1} → statement M
 slots-sound-spec =
     tie.close
-    (tie.spec see-peers-requires run-sound-requires peer-fixed-requires returns run-sound-requires-2 peer-reset-requires returns-2 mixed-sound-requires returns-3)
+    (tie.spec see-peers-requires run-sound-requires peer-fixed-requires returns run-sound-requires-2 peer-reset-requires
+    returns-2 mixed-sound-requires returns-3)

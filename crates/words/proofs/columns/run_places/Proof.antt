@@ -24,11 +24,16 @@ mul-t8 : tie.Need-mul-t8
 mul-t8 c = rw (c .before .count2 .ensures) (omega (arith, run-rows _ _ _ (c .before .before .before .before .pre)))
 
 mul-t9 : tie.Need-mul-t9
-mul-t9 c = rw (c .before .before .count .ensures, c .before .count2 .ensures) (omega (arith, known-inside _ _ (run-known _ _ _ (c .before .before .before .before .pre))))
+mul-t9 c =
+    let c4 = c .before .before .before .before in
+    rw (c .before .before .count .ensures, c .before .count2 .ensures) (omega (arith, known-inside _ _ (run-known _ _ _ (c4 .pre))))
 
 returns : tie.Need-returns
 returns c =
-    run-stands _ _ _ (c .before .before .before .before .pre) _ (rw (c .before .before .count .ensures, c .before .count2 .ensures) at (c .entry-start .ensures)) (rw (c .before .count2 .ensures)) (rw (c .before .before .count .ensures, c .before .count2 .ensures))
+    let c4 = c .before .before .before .before in
+    run-stands _ _ _ (c4 .pre) _ (rw (c .before .before .count .ensures, c .before .count2 .ensures)
+    at (c .entry-start .ensures)) (rw (c .before .count2 .ensures))
+    (rw (c .before .before .count .ensures, c .before .count2 .ensures))
 
 pub run-places-spec : {M : Type 1} → statement M
 run-places-spec =

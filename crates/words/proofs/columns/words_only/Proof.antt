@@ -64,4 +64,5 @@ returns c =
 pub words-only-spec : {M : Type 1} → statement M
 words-only-spec =
     tie.close
-    (tie.spec Inv-loop μ-loop loop-holds add-lows mul-lows shared-slice-read-lows add-controls mul-controls add-controls-2 mul-controls-2 shared-slice-read-controls add-k loop-less loop-again returns)
+    (tie.spec Inv-loop μ-loop loop-holds add-lows mul-lows shared-slice-read-lows add-controls mul-controls add-controls-2
+    mul-controls-2 shared-slice-read-controls add-k loop-less loop-again returns)

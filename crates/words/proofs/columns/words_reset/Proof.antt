@@ -73,8 +73,10 @@ loop-less c = omega arith
 
 loop-again : tie.Need-loop-again Inv-loop μ-loop
 loop-again c =
-    let e = entryFrom (c .before .before .before .before .before .before .args .hub .now) (c .before .before .before .before .before .before .args .start + c .before .before .before .before .before .loop .k) (c .before .before .before .before .before .before .args .column) in
-    (omega arith, rw add-one (reset-more (c .before .before .before .before .before .loop .faults) e ∙ rw (c .before .before .before .before .before .loop .inv .1) (sym (below-suc _ _))))
+    let c5 = c .before .before .before .before .before in
+    let c6 = c5 .before in
+    let e = entryFrom (c6 .args .hub .now) (c6 .args .start + c5 .loop .k) (c6 .args .column) in
+    (omega arith, rw add-one (reset-more (c5 .loop .faults) e ∙ rw (c5 .loop .inv .1) (sym (below-suc _ _))))
 
 returns : tie.Need-returns Inv-loop μ-loop
 returns c =
@@ -84,4 +86,6 @@ returns c =
 pub words-reset-spec : {M : Type 1} → statement M
 words-reset-spec =
     tie.close
-    (tie.spec Inv-loop μ-loop loop-holds add-at mul-faults shared-slice-read-faults add-faults mul-faults-2 shared-slice-read-faults-2 mul-faults-3 add-faults-2 mul-faults-4 shared-slice-read-faults-3 mul-faults-5 add-faults-3 mul-faults-6 shared-slice-read-faults-4 add-k loop-less loop-again returns)
+    (tie.spec Inv-loop μ-loop loop-holds add-at mul-faults shared-slice-read-faults add-faults mul-faults-2
+    shared-slice-read-faults-2 mul-faults-3 add-faults-2 mul-faults-4 shared-slice-read-faults-3 mul-faults-5 add-faults-3
+    mul-faults-6 shared-slice-read-faults-4 add-k loop-less loop-again returns)

@@ -14,8 +14,10 @@ count-requires-2 c κs = omega (arith, known-inside _ _ (c .before .before .pre 
 
 entry-in-requires : tie.Need-entry-in-requires
 entry-in-requires c κs =
-    let i = known-inside _ _ (c .before .before .before .pre .0) in
-    ((c .before .count .ensures ∙ sym (peers-at (i .sized)), c .count2 .ensures ∙ sym (vectors-at (i .sized))), (c .before .before .before .pre .0, c .before .before .before .pre .1))
+    let i = known-inside _ _ (c .before .before .before .pre .0) in (
+      (c .before .count .ensures ∙ sym (peers-at (i .sized)), c .count2 .ensures ∙ sym (vectors-at (i .sized))),
+      (c .before .before .before .pre .0, c .before .before .before .pre .1),
+    )
 
 returns : tie.Need-returns
 returns c = search needs

@@ -9,7 +9,8 @@ entry-start-requires : tie.Need-entry-start-requires
 entry-start-requires c κs =
     let i = known-inside _ _ (c .before .pre .1 .0) in
     let v = rw (vectors-at (i .sized)) at (c .before .pre .1 .1) in
-    rw (c .before .pre .0 .0, c .before .pre .0 .1, peers-at (i .sized), vectors-at (i .sized)) ((i .sized .few, i .sized .less), (omega (arith, i), omega (arith, v)))
+    rw (c .before .pre .0 .0, c .before .pre .0 .1, peers-at (i .sized), vectors-at (i .sized))
+    ((i .sized .few, i .sized .less), (omega (arith, i), omega (arith, v)))
 
 mul-entry-from : tie.Need-mul-entry-from
 mul-entry-from c =
@@ -20,12 +21,25 @@ entry-from-requires : tie.Need-entry-from-requires
 entry-from-requires c κs =
     let i = known-inside _ _ (c .before .before .pre .1 .0) in
     let v = rw (vectors-at (i .sized)) at (c .before .before .pre .1 .1) in
-    rw (c .entry-start .ensures, c .before .before .pre .0 .0, c .before .before .pre .0 .1, peers-at (i .sized), vectors-at (i .sized)) (omega (arith, entry-below _ _ 3 _ _ (omega arith) (i .below) v, i .sized .size))
+    rw (
+      c .entry-start .ensures,
+      c .before .before .pre .0 .0,
+      c .before .before .pre .0 .1,
+      peers-at (i .sized),
+      vectors-at (i .sized),
+    ) (omega (arith, entry-below _ _ 3 _ _ (omega arith) (i .below) v, i .sized .size))
 
 returns : tie.Need-returns
 returns c =
     let i = known-inside _ _ (c .before .before .before .pre .1 .0) in
-    rw (c .entry-from .ensures, c .before .entry-start .ensures, c .before .before .before .pre .0 .0, c .before .before .before .pre .0 .1, peers-at (i .sized), vectors-at (i .sized))
+    rw (
+      c .entry-from .ensures,
+      c .before .entry-start .ensures,
+      c .before .before .before .pre .0 .0,
+      c .before .before .before .pre .0 .1,
+      peers-at (i .sized),
+      vectors-at (i .sized),
+    )
     (entry-read (i .sized) _ _ (i .below) (rw (vectors-at (i .sized)) at (c .before .before .before .pre .1 .1)))
 
 pub entry-in-spec : {M : Type 1} → statement M

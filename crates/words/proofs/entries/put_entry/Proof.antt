@@ -18,12 +18,25 @@ entry-start-requires c κs =
     rw (c .before .before .count .ensures, c .count2 .ensures) ((i .sized .few, i .sized .less), (omega (arith, i), omega arith))
 
 mul-put-entry-from : tie.Need-mul-put-entry-from
-mul-put-entry-from c = rw (c .before .before .before .before .count .ensures, c .before .before .count2 .ensures) (omega (arith, known-inside _ _ (c .before .before .before .before .before .before .before .pre .0)))
+mul-put-entry-from c =
+    let c4 = c .before .before .before .before in
+    let c7 = c4 .before .before .before in
+    rw (c4 .count .ensures, c .before .before .count2 .ensures) (omega (arith, known-inside _ _ (c7 .pre .0)))
 
 put-entry-from-requires : tie.Need-put-entry-from-requires
 put-entry-from-requires c κs =
-    let i = known-inside _ _ (c .before .before .before .before .before .before .before .pre .0) in
-    (rw (c .before .entry-start .ensures, c .before .before .before .before .count .ensures, c .before .before .count2 .ensures, peers-at (i .sized), vectors-at (i .sized)) (refl, refl), (c .before .before .before .before .before .before .before .pre .0, c .before .before .before .before .before .before .before .pre .1))
+    let c4 = c .before .before .before .before in
+    let c7 = c4 .before .before .before in
+    let i = known-inside _ _ (c7 .pre .0) in (
+      rw (
+        c .before .entry-start .ensures,
+        c4 .count .ensures,
+        c .before .before .count2 .ensures,
+        peers-at (i .sized),
+        vectors-at (i .sized),
+      ) (refl, refl),
+      (c7 .pre .0, c7 .pre .1),
+    )
 
 same-length : tie.Need-same-length
 same-length c = search needs

@@ -30,11 +30,13 @@ same-length c = search needs
 
 returns : tie.Need-returns
 returns c =
-    let a = c .before .before .before .before .before .before .args in
-    let i = known-inside _ _ (c .before .before .before .before .before .before .pre .1 .0) in
-    let e : entryStart (word (a .hub .now) 0) (word (a .hub .now) 1) 0 (a .i) 0 + a .v ≡ entryStart (word (a .hub .now) 0) (word (a .hub .now) 1) 0 (a .i) (a .v) = omega arith in
-    entry-put _ _ (i .sized) (c .before .before .put-words .kept .0) _ _ _ (i .below) (rw (vectors-at (i .sized)) at (c .before .before .before .before .before .before .pre .1 .1))
-    (rw e at (rw (c .before .before .before .before .before .before .pre .0 .0, c .before .before .before .before .before .before .pre .0 .1, peers-at (i .sized), vectors-at (i .sized)) at (c .before .before .put-words .ensures)))
+    let c6 = c .before .before .before .before .before .before in
+    let a = c6 .args in
+    let i = known-inside _ _ (c6 .pre .1 .0) in
+    let e : entryStart (word (a .hub .now) 0) (word (a .hub .now) 1) 0 (a .i) 0 + a .v ≡ entryStart (word (a .hub .now) 0)
+    (word (a .hub .now) 1) 0 (a .i) (a .v) = omega arith in
+    entry-put _ _ (i .sized) (c .before .before .put-words .kept .0) _ _ _ (i .below) (rw (vectors-at (i .sized)) at (c6 .pre .1 .1))
+    (rw e at (rw (c6 .pre .0 .0, c6 .pre .0 .1, peers-at (i .sized), vectors-at (i .sized)) at (c .before .before .put-words .ensures)))
 
 pub put-entry-from-spec : {M : Type 1} → statement M
 put-entry-from-spec =

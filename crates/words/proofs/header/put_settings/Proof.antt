@@ -22,7 +22,10 @@ same-length c = search needs
 
 returns : tie.Need-returns
 returns c =
-    settings-put _ _ _ (c .before .before .before .before .before .before .before .pre .1) (c .before .before .put-words .kept .0 ∙ c .before .before .before .before .before .before .before .pre .0) (rw (c .before .before .before .before .before .settings-words .ensures) at (c .before .before .put-words .ensures))
+    let c5 = c .before .before .before .before .before in
+    let c7 = c5 .before .before in
+    settings-put _ _ _ (c7 .pre .1) (c .before .before .put-words .kept .0 ∙ c7 .pre .0) (rw (c5 .settings-words .ensures)
+    at (c .before .before .put-words .ensures))
 
 pub put-settings-spec : {M : Type 1} → statement M
 put-settings-spec =

@@ -42,7 +42,16 @@ hub-words-requires c κs = search needs
 returns-4 : tie.Need-returns-4
 unfolding fits every
 returns-4 c =
-    rw (c .hub-words .ensures, c .before .before .before .before .before .before .count .ensures, c .before .before .before .before .before .count2 .ensures, le-leb _ _ (rw (c .before .before .before .before .max-peers .ensures, c .before .before .before .before .before .before .count .ensures) at (c .before .before .before .if2 .left)), le-leb _ _ (rw (c .before .before .max-vectors .ensures, c .before .before .before .before .before .count2 .ensures) at (c .before .if3 .left)))
+    let c4 = c .before .before .before .before in
+    let c5 = c4 .before in
+    let c6 = c5 .before in
+    rw (
+      c .hub-words .ensures,
+      c6 .count .ensures,
+      c5 .count2 .ensures,
+      le-leb _ _ (rw (c4 .max-peers .ensures, c6 .count .ensures) at (c .before .before .before .if2 .left)),
+      le-leb _ _ (rw (c .before .before .max-vectors .ensures, c5 .count2 .ensures) at (c .before .if3 .left)),
+    )
 
 pub fits-spec : {M : Type 1} → statement M
 fits-spec =

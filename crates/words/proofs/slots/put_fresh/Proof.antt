@@ -32,13 +32,19 @@ put-settings-requires c κs = search needs
 
 fill-requires-2 : tie.Need-fill-requires-2
 unfolding hubWords
-fill-requires-2 c κs = omega (arith, c .before .before .before .put-settings .kept .0, c .before .before .before .before .before .before .before .fill .kept .0, c .before .before .before .before .before .before .before .before .before .before .pre .0)
+fill-requires-2 c κs =
+    let c7 = c .before .before .before .before .before .before .before in
+    let c10 = c7 .before .before .before in
+    omega (arith, c .before .before .before .put-settings .kept .0, c7 .fill .kept .0, c10 .pre .0)
 
 same-length : tie.Need-same-length
 same-length c = search needs
 
 returns : tie.Need-returns
-returns c = fresh-put _ _ _ _ _ (c .before .before .before .before .before .before .before .before .before .before .fill .ensures) (c .before .before .before .before .before .before .put-settings .ensures) (c .before .before .fill2 .kept .0) (c .before .before .fill2 .ensures)
+returns c =
+    let c6 = c .before .before .before .before .before .before in
+    let c10 = c6 .before .before .before .before in
+    fresh-put _ _ _ _ _ (c10 .fill .ensures) (c6 .put-settings .ensures) (c .before .before .fill2 .kept .0) (c .before .before .fill2 .ensures)
 
 pub put-fresh-spec : {M : Type 1} → statement M
 put-fresh-spec =

@@ -34,23 +34,35 @@ put-peer-requires : tie.Need-put-peer-requires Inv-loop μ-loop
 put-peer-requires c κs = c .before .before .before .pre
 
 count-requires : tie.Need-count-requires Inv-loop μ-loop
-count-requires c κs = omega (arith, known-inside (c .before .before .before .put-peer .last .0) (c .before .before .before .before .before .before .before .args .i) (rw (c .before .before .before .put-peer .ensures) (c .before .before .before .before .before .before .before .pre)))
+count-requires c κs =
+    let c7 = c .before .before .before .before .before .before .before in
+    omega (arith, known-inside (c .before .before .before .put-peer .last .0) (c7 .args .i) (rw (c .before .before .before .put-peer .ensures) (c7 .pre)))
 
 count-requires-2 : tie.Need-count-requires-2 Inv-loop μ-loop
-count-requires-2 c κs = omega (arith, known-inside (c .before .before .before .before .before .put-peer .last .0) (c .before .before .before .before .before .before .before .before .before .args .i) (rw (c .before .before .before .before .before .put-peer .ensures) (c .before .before .before .before .before .before .before .before .before .pre)))
+count-requires-2 c κs =
+    let c5 = c .before .before .before .before .before in
+    let c9 = c5 .before .before .before .before in
+    omega (arith, known-inside (c5 .put-peer .last .0) (c9 .args .i) (rw (c5 .put-peer .ensures) (c9 .pre)))
 
 entry-start-requires : tie.Need-entry-start-requires Inv-loop μ-loop
 entry-start-requires c κs =
-    let i = known-inside (c .before .before .before .before .before .before .put-peer .last .0) (c .before .before .before .before .before .before .before .before .before .before .args .i) (rw (c .before .before .before .before .before .before .put-peer .ensures) (c .before .before .before .before .before .before .before .before .before .before .pre)) in
+    let c6 = c .before .before .before .before .before .before in
+    let c10 = c6 .before .before .before .before in
+    let i = known-inside (c6 .put-peer .last .0) (c10 .args .i) (rw (c6 .put-peer .ensures) (c10 .pre)) in
     rw (c .before .before .count .ensures, c .count2 .ensures) ((i .sized .few, i .sized .less), (omega (arith, i), omega arith))
 
 mul-column : tie.Need-mul-column Inv-loop μ-loop
 mul-column c =
-    rw (c .before .before .before .count .ensures, c .before .count2 .ensures) (omega (arith, known-inside (c .before .before .before .before .before .before .before .put-peer .last .0) (c .before .before .before .before .before .before .before .before .before .before .before .args .i) (rw (c .before .before .before .before .before .before .before .put-peer .ensures) (c .before .before .before .before .before .before .before .before .before .before .before .pre))))
+    let c7 = c .before .before .before .before .before .before .before in
+    let c11 = c7 .before .before .before .before in
+    rw (c .before .before .before .count .ensures, c .before .count2 .ensures)
+    (omega (arith, known-inside (c7 .put-peer .last .0) (c11 .args .i) (rw (c7 .put-peer .ensures) (c11 .pre))))
 
 loop-holds : tie.Need-loop-holds Inv-loop μ-loop
 loop-holds c =
-    let known : Known (c .before .before .before .before .before .before .before .put-peer .last .0) (c .before .before .before .before .before .before .before .before .before .before .before .args .i) = rw (c .before .before .before .before .before .before .before .put-peer .ensures) (c .before .before .before .before .before .before .before .before .before .before .before .pre) in
+    let c7 = c .before .before .before .before .before .before .before in
+    let c11 = c7 .before .before .before .before in
+    let known : Known (c7 .put-peer .last .0) (c11 .args .i) = rw (c7 .put-peer .ensures) (c11 .pre) in
     let z = known-inside _ _ known .sized in
     record {
       known = known;
@@ -67,8 +79,14 @@ reset-requires-2 c κs = search needs
 
 put-entry-from-requires : tie.Need-put-entry-from-requires Inv-loop μ-loop
 put-entry-from-requires c κs =
-    let s = c .before .before .before .loop .inv .reset in
-    ((rw s (c .before .before .before .loop .inv .first), rw s (c .before .before .before .loop .inv .apart)), (rw s (c .before .before .before .loop .inv .known), rw s (rw (c .before .before .before .loop .inv .vectors) at (c .before .before .loop-test .taken))))
+    let s = c .before .before .before .loop .inv .reset in (
+      (rw s (c .before .before .before .loop .inv .first), rw s (c .before .before .before .loop .inv .apart)),
+      (
+        rw s (c .before .before .before .loop .inv .known),
+        rw s (rw (c .before .before .before .loop .inv .vectors)
+            at (c .before .before .loop-test .taken)),
+      ),
+    )
 
 add-v : tie.Need-add-v Inv-loop μ-loop
 add-v c = omega arith
@@ -78,15 +96,17 @@ loop-less c = omega arith
 
 loop-again : tie.Need-loop-again Inv-loop μ-loop
 loop-again c =
+    let c5 = c .before .before .before .before .before in
+    let c6 = c5 .before in
     record {
-      known = c .before .before .before .before .before .before .loop .inv .known;
-      vectors = c .before .before .before .before .before .before .loop .inv .vectors;
-      first = c .before .before .before .before .before .before .loop .inv .first;
-      apart = c .before .before .before .before .before .before .loop .inv .apart;
+      known = c6 .loop .inv .known;
+      vectors = c6 .loop .inv .vectors;
+      first = c6 .loop .inv .first;
+      apart = c6 .loop .inv .apart;
       bound = omega arith;
-      kept = c .before .before .put-entry-from .kept .0 ∙ c .before .before .before .before .before .before .loop .inv .kept;
+      kept = c .before .before .put-entry-from .kept .0 ∙ c6 .loop .inv .kept;
       reset =
-          cleared-more _ _ _ _ (c .before .before .before .before .before .before .loop .inv .known) _ (rw (c .before .before .before .before .before .before .loop .inv .vectors) at (c .before .before .before .before .before .loop-test .taken)) (c .before .before .before .before .before .before .loop .inv .reset)
+          cleared-more _ _ _ _ (c6 .loop .inv .known) _ (rw (c6 .loop .inv .vectors) at (c5 .loop-test .taken)) (c6 .loop .inv .reset)
           (rw (c .before .before .before .reset2 .ensures) at (c .before .before .put-entry-from .ensures));
     }
 
@@ -95,9 +115,12 @@ same-length c = c .before .loop .inv .kept ∙ c .before .before .before .before
 
 returns : tie.Need-returns Inv-loop μ-loop
 returns c =
+    let c9 = c .before .before .before .before .before .before .before .before .before in
+    let c10 = c9 .before in
+    let c13 = c10 .before .before .before in
     let e : c .before .loop .v ≡ c .before .before .before .count2 .result = omega arith in
-    let last = e ∙ c .before .loop .inv .vectors ∙ ap (λ (h : Hub). h .settings .vectors) (c .before .before .before .before .before .before .before .before .before .put-peer .ensures) in
-    cleared-all _ _ _ _ (c .before .before .before .before .before .before .before .before .before .before .before .before .before .pre) _ (rw (c .before .before .before .before .before .before .before .before .before .before .reset .ensures) at (c .before .before .before .before .before .before .before .before .before .put-peer .ensures)) (rw last at (c .before .loop .inv .reset))
+    let last = e ∙ c .before .loop .inv .vectors ∙ ap (λ (h : Hub). h .settings .vectors) (c9 .put-peer .ensures) in
+    cleared-all _ _ _ _ (c13 .pre) _ (rw (c10 .reset .ensures) at (c9 .put-peer .ensures)) (rw last at (c .before .loop .inv .reset))
 
 pub put-reset-spec : {M : Type 1} → statement M
 put-reset-spec =
