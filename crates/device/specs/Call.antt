@@ -1,4 +1,4 @@
--- The calls ('The hub and its guests'), each by or on one id, with their arguments and lent lengths. Set-up is apart: it has
+-- The calls (R3), each by or on one id, with their arguments and lent lengths. Set-up is apart: it has
 -- no hub before it.
 use Prim.Native.Nat.{ℕ}
 use mathlib.Core.List.{List}

@@ -1,4 +1,4 @@
--- 'Configuration space (256 bytes, little-endian)'.
+-- Configuration space, 256 bytes (R37 to R44).
 use Prim.Native.Nat.{ℕ, zero, suc, _+_, _-_, _*_, _/_, _%_}
 use mathlib.Core.Bool.{Bool, cond, _&&_}
 use mathlib.Core.List.{List, [], _∷_, _++_}
@@ -16,7 +16,7 @@ pub record Field : Type 0 where
 abbrev pub field : ℕ → ℕ → ℕ → Field
 field start size content = record { start = start; size = size; content = content }
 
--- The table 'At, Content', in three parts: the header's registers, the vendor-specific capability at 40h and the MSI-X capability
+-- The table of R38, in three parts: the header's registers, the vendor-specific capability at 40h and the MSI-X capability
 -- at 60h.
 abbrev pub headerFields : Settings → Peer → List Field
 headerFields s p =
@@ -100,7 +100,7 @@ masks s =
     ∷ mask 0x63 0xC0
     ∷ []
 
--- 'any other byte 00h'
+-- R41: a byte that no row gives a mask has mask 00h
 unfoldable pub maskIn : ℕ → List Mask → ℕ
 maskIn at [] = 0x00
 maskIn at (m ∷ ms) = cond (eqb at (m .at)) (m .bits) (maskIn at ms)
@@ -127,7 +127,7 @@ withByte p at b =
       state = p .state;
     }
 
--- 'A write replaces, byte by byte, only the bits of this mask'
+-- R42: of a byte a write replaces the bits of the mask alone
 unfoldable pub writtenByte : Settings → Peer → ℕ → ℕ → Peer
 writtenByte s p at b = withByte p at (merge (maskAt s at) (configurationByte s p at) b)
 

@@ -71,7 +71,7 @@ withState p state =
       state = state;
     }
 
--- 'v = bits 0-15, t = bits 16-31'
+-- R54: the vector is bits 0 to 15 of the value, the id bits 16 to 31
 abbrev pub rungVector : ℕ → Vector
 rungVector value = vector (value % 2 ^ 16)
 
@@ -82,7 +82,7 @@ rungPeer value = peerId (value / 2 ^ 16 % 2 ^ 16)
 abbrev pub stateValue : ℕ → ℕ
 stateValue value = bitAnd value 0xFFFFFFFF
 
--- a store to a register; 'stores there and to 00 and 04 do nothing'. Interrupt Control has bit 0 only.
+-- a store to a register (R45): at ID, at Maximum Peers and where none is, nothing. Interrupt Control has bit 0 only.
 unfoldable pub registerStored : ℕ → Slot → Register → ℕ → List Operation
 registerStored who slot Register.identity value = []
 registerStored who slot Register.maximumPeers value = []

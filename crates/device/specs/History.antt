@@ -1,4 +1,4 @@
--- 'What a guest can learn': histories, and what one peer observes of them.
+-- Histories, and what one peer observes of them (R66 to R68).
 use Prim.Native.Nat.{ℕ, _*_}
 use mathlib.Core.Bool.{cond}
 use mathlib.Core.List.{List, [], _∷_, _++_}
@@ -16,19 +16,18 @@ use Rattle.device.specs.SetUp.{total, freshHub}
 use Rattle.device.specs.Step.{Outcome, step}
 use Rattle.device.specs.World.{World, world, slotAt}
 
--- A history is any list of calls, by or on any ids, refused ones included. 'It starts with the hub and the zero region of an
--- accepted set-up'.
+-- R66: a history is any list of calls, by or on any ids, refused ones included. It starts with what an accepted set-up leaves.
 unfoldable pub start : Settings → World
 start s = world (freshHub s) (replicate (total s) 0)
 
--- 'Each call takes the hub and region left by the last'
+-- R66: each call meets the world that the call before it left
 unfoldable pub after : World → List Call → World
 after w [] = w
 after w (c ∷ cs) = after (step w c .world) cs
 
 -- What a peer is given: the answer to a call by it or on it, or an interrupt.
 pub data Observation : Type 0 where
-  -- 'B's answer is the number, the value, the section answer and an accepted load's bytes'
+  -- R67: number, value, section answer and the bytes of an accepted load
   answered : (number value : ℕ) (answer : SectionAnswer) (loaded : List ℕ) → Observation
   -- a delivery with its four parts
   interrupted : Delivery → Observation
@@ -42,13 +41,13 @@ unfoldable pub answerTo : ℕ → Call → Outcome → List Observation
 answerTo b c o =
     cond (eqb (c .who) b) (Observation.answered (o .number) (o .value) (o .answer) (o .loaded) ∷ []) []
 
--- 'as one list in the order of the calls, a call's answer before its deliveries'
+-- R67: a single list, call by call, the answer before the deliveries
 unfoldable pub observed : ℕ → World → List Call → List Observation
 observed b w [] = []
 observed b w (c ∷ cs) =
     answerTo b c (step w c) ++ (deliveriesTo b (step w c .deliveries) ++ observed b (step w c .world) cs)
 
--- 'B's registers of all three spaces, those that Command bit 1 hides too': each byte of configuration space, and each word of
+-- R68: the peer's registers, those that Command bit 1 hides too: each byte of configuration space, and each word of
 -- the register region and of the MSI-X region as it reads with that bit on
 pub record Spaces : Type 0 where
   pub configuration : List ℕ

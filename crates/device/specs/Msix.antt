@@ -1,4 +1,4 @@
--- 'MSI-X region (4096 bytes, aligned 4-byte only)'.
+-- The MSI-X region, 4096 bytes (R47 to R49).
 use Prim.Native.Nat.{ℕ, _/_, _%_}
 use mathlib.Core.Bool.{Bool, cond}
 use lib.Bits.{bitAnd}
@@ -15,7 +15,7 @@ vectorAt at = at / 16
 abbrev pub wordAt : ℕ → ℕ
 wordAt at = at % 16 / 4
 
--- 'entry v, for v < V, at 16v'; 'All else, the PBA at 800h included, reads 0 and ignores stores'
+-- R47: for v below V, entry v stands at 16v; all else, the pending bits at 800h among it, reads 0 and takes no store
 unfoldable pub inTable : Settings → ℕ → Bool
 inTable s at = ltb (vectorAt at) (s .vectors)
 
@@ -29,7 +29,7 @@ tableWord s slot at = cond (inTable s at) (entryWord (entryAt slot (vectorAt at)
 unfoldable pub msixRead : Settings → Slot → ℕ → ℕ
 msixRead s slot at = cond (memoryOn (slot .peer)) (tableWord s slot at) unmapped
 
--- 'bits 0-1 fixed 0', 'bit 0 mask, the rest fixed 0'
+-- R48: bits 0 and 1 of the low address are fixed at 0, and so is all of control but bit 0
 abbrev pub addressMask : ℕ
 addressMask = 0xFFFFFFFC
 

@@ -94,18 +94,18 @@ timesCleared b w cs = count (turns 1 0 b) w cs
 pub record Limited (b : ℕ) (w : World) (cs : List Call) : Type 0 where
   -- interrupts, Interrupt Control at the end and own clears add up to own sets and Interrupt Control at the start
   pub balance : interrupts (observed b w cs) + interruptControl b (after w cs) + timesCleared b w cs ≡ timesSet b w cs + interruptControl b w
-  -- 'at most its own stores that turn Interrupt Control from 0 to 1, plus one if it was 1 at the start'
+  -- R74: at most its own stores that turn Interrupt Control from 0 to 1, and one more where it was 1 at the start
   pub bound : interrupts (observed b w cs) ≤ timesSet b w cs + one (eqb (interruptControl b w) 1)
   -- so between one of the peer's own stores to Interrupt Control and the next at most one interrupt comes, whatever is rung
   pub single : timesSet b w cs ≡ 0 → interrupts (observed b w cs) ≤ 1
 
--- 'Over any stretch of a history in which a peer stays connected with one-shot on throughout'
+-- R73: of any stretch of a history in which a peer is connected with one-shot on throughout
 abbrev pub OneShotLimits : Type 0
 OneShotLimits =
     (s : Settings) → accepted s ≡ true → (b : ℕ) (before stretch : List Call)
     → throughout b (after (start s) before) stretch ≡ true → Limited b (after (start s) before) stretch
 
--- 'a ring not delivered is lost and changes nothing': one at Interrupt Control 0, by whatever call, delivers nothing and leaves the
--- hub as it was, so that nothing can come of it later
+-- R53, of a ring at Interrupt Control 0, by whatever call: it delivers nothing and leaves the hub as it was, so that nothing can
+-- come of it later
 abbrev pub NothingKept : Type 0
 NothingKept = (hub : Hub) (t : PeerId) (v : Vector) → slotAt hub (t .0) .peer .interrupt ≡ 0 → ring hub t v ≡ rung hub []

@@ -28,6 +28,6 @@ pub record Shaped (hub : Hub) : Type 0 where
   pub slots : length (hub .slots) ≡ hub .settings .peers
   pub each : (i : ℕ) → i < hub .settings .peers → SlotShaped (hub .settings .vectors) (slotAt hub i)
 
--- '10: the hub handed in is not sound': the sound hubs are exactly those that a history leaves
+-- R36, of refusal 10: the sound hubs are exactly those that a history leaves
 abbrev pub SoundIsReached : Type 0
 SoundIsReached = (hub : Hub) → Shaped hub → (sound hub ≡ true → Reached hub) × (Reached hub → sound hub ≡ true)

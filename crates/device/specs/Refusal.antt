@@ -1,4 +1,4 @@
--- 'When the hub says no': the numbers of the table in their order, 10, 1, 2, 11, 3, 4 or 5, 6, 7, 8, 9. Number 1 is given at
+-- Refusals (R19 to R32): the numbers of the table in their order, 10, 2, 11, 3, 4 or 5, 6, 7, 8, 9. Number 1 is given at
 -- set-up alone, which is handed no hub and has its own order (SetUp).
 use Prim.Native.Nat.{ℕ, _+_, _%_}
 use mathlib.Core.Bool.{Bool, false, not, _||_}
@@ -14,9 +14,7 @@ use Rattle.device.specs.SetUp.{total}
 use Rattle.device.specs.Sound.{sound}
 use Rattle.device.specs.World.{World, slotAt}
 
--- What the host lends to a call: nothing, the region, or the region and a delivery table of so many records ('The host lends the
--- shared region to set-up, disconnect, reset, register writes, loads and stores, and the delivery table to disconnect, reset and
--- register writes').
+-- What the host lends to a call (R4): nothing, the region, or the region and a delivery table of so many records.
 pub data Lent : Type 0 where
   nothing region : Lent
   regionAndTable : (records : ℕ) → Lent
@@ -70,7 +68,7 @@ shortTable s Lent.nothing = false
 shortTable s Lent.region = false
 shortTable s (Lent.regionAndTable n) = ltb n (s .peers)
 
--- 4: 'peer not connected (all calls by or on it but connect)'
+-- 4: 'the peer is not connected; for every call by or on it but connect'
 unfoldable pub missing : Bool → Access → Bool
 missing connected Access.joining = false
 missing connected Access.none = not connected
@@ -88,7 +86,7 @@ present connected (Access.registers at w) = false
 present connected (Access.shared at n) = false
 present connected (Access.storing at n) = false
 
--- 6: 'width not allowed; shared length 0'
+-- 6: 'width not allowed', 'shared length 0'
 unfoldable pub wrongWidth : Access → Bool
 wrongWidth Access.joining = false
 wrongWidth Access.none = false
@@ -97,7 +95,7 @@ wrongWidth (Access.registers at w) = not (eqb w 4)
 wrongWidth (Access.shared at n) = eqb n 0
 wrongWidth (Access.storing at n) = eqb n 0
 
--- 7: 'offset not a multiple of the width (not for shared bytes)'
+-- 7: 'the offset is not a multiple of the width; never for shared bytes'
 unfoldable pub misaligned : Access → Bool
 misaligned Access.joining = false
 misaligned Access.none = false
@@ -106,7 +104,7 @@ misaligned (Access.registers at w) = not (eqb (at % w) 0)
 misaligned (Access.shared at n) = false
 misaligned (Access.storing at n) = false
 
--- 8: 'the access runs past the end of its space; a shared range is not whole in one section'
+-- 8: 'offset + width is above the size of the space', 'no section holds the whole shared range'
 unfoldable pub outside : Settings → Access → Bool
 outside s Access.joining = false
 outside s Access.none = false
@@ -115,7 +113,7 @@ outside s (Access.registers at w) = ltb 4096 (at + w)
 outside s (Access.shared at n) = not (somewhere (sectionOf s at n))
 outside s (Access.storing at n) = not (somewhere (sectionOf s at n))
 
--- 9: 'store to the State Table or another peer's output section'
+-- 9: 'a store to the State Table or to another peer's output section'
 unfoldable pub forbidden : Settings → ℕ → Access → Bool
 forbidden s who Access.joining = false
 forbidden s who Access.none = false

@@ -1,4 +1,4 @@
--- 'Registers (4096 bytes, aligned 4-byte access only)': the register region.
+-- The register region, 4096 bytes (R45, R46).
 use Prim.Native.Nat.{ℕ}
 use mathlib.Core.Bool.{Bool, cond}
 use lib.Dec.{eqb}
@@ -23,7 +23,7 @@ memoryOn p = bit 1 (p .command)
 abbrev pub unmapped : ℕ
 unmapped = 0xFFFFFFFF
 
--- 'Other offsets read 0', and so does the Doorbell
+-- R45: where no register is, 0 is read, and so it is at the Doorbell
 unfoldable pub registerValue : Settings → ℕ → Peer → Register → ℕ
 registerValue s who p identity = who
 registerValue s who p maximumPeers = s .peers

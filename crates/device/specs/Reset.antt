@@ -1,4 +1,4 @@
--- Reset values ('Configuration space', 'Registers'): everything 0 but the mask bit of an MSI-X entry.
+-- Reset values (R38, R45, R49): everything 0 but the mask bit of an MSI-X entry.
 use Prim.Native.Nat.{ℕ}
 use Rattle.device.specs.declared.Entry.{Entry}
 use Rattle.device.specs.declared.Peer.{Peer}
@@ -17,6 +17,6 @@ resetPeer connected =
       state = 0;
     }
 
--- 'Reset: 0, 0, 0, 1'
+-- R49: 0, 0, 0, 1
 abbrev pub resetEntry : Entry
 resetEntry = record { low = 0; high = 0; payload = 0; control = 1 }

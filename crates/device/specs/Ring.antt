@@ -21,7 +21,7 @@ peerId i = record { 0 = i }
 abbrev pub vector : ℕ → Vector
 vector v = record { 0 = v }
 
--- 'The gate of a peer is one small record of its switches'
+-- R51: the gate of a peer, the record of its switches
 unfoldable pub gateOf : Peer → Entry → Gate
 gateOf p e =
     record {
@@ -37,7 +37,7 @@ gateOf p e =
 unfoldable pub opens : Gate → Bool
 opens g = every (g .master ∷ g .enabled ∷ not (g .masked) ∷ not (g .silenced) ∷ g .interrupt ∷ [])
 
--- 'either finds a live peer with that vector or finds nothing'
+-- R50: a ring finds a target, or nobody
 unfoldable pub target : Hub → PeerId → Vector → Target
 target hub t v =
     cond
@@ -49,7 +49,7 @@ target hub t v =
     (Live (gateOf (slotAt hub (t .0) .peer) (entryAt (slotAt hub (t .0)) (v .0))))
     Nobody
 
--- '(t, v, 64-bit address, data) from entry v'
+-- R52: t, v, and the 64-bit address and the data of entry v
 unfoldable pub deliveryOf : PeerId → Vector → Entry → Delivery
 deliveryOf t v e =
     record { target = t; vector = v; address = e .low + 2 ^ 32 * e .high; payload = e .payload }
@@ -67,7 +67,7 @@ withInterrupt p interrupt =
       state = p .state;
     }
 
--- 'Then, if t's Privileged Control bit 0 is 1, t's Interrupt Control becomes 0'
+-- R52: where one-shot is on at the target, its Interrupt Control becomes 0
 unfoldable pub afterDelivery : Gate → Slot → Slot
 afterDelivery g slot = cond (g .oneshot) (withPeer slot (withInterrupt (slot .peer) 0)) slot
 
@@ -79,7 +79,7 @@ pub record Rung : Type 0 where
 abbrev pub rung : Hub → List Delivery → Rung
 rung hub deliveries = record { hub = hub; deliveries = deliveries }
 
--- 'a ring not delivered is lost and changes nothing'
+-- R53: a ring that is not delivered leaves the hub as it was
 unfoldable pub ringAt : Hub → PeerId → Vector → Target → Rung
 ringAt hub t v Nobody = rung hub []
 ringAt hub t v (Live gate) =
@@ -102,6 +102,6 @@ ringFrom zero i who hub = rung hub []
 ringFrom (suc n) i who hub =
     rungThen (cond (eqb i who) (rung hub []) (ring hub (peerId i) (vector 0))) (λ h. ringFrom n (suc i) who h)
 
--- 'then vector 0 is rung at every other id, ascending'
+-- R55: vector 0 rung at every other id, ascending
 unfoldable pub ringOthers : ℕ → Hub → Rung
 ringOthers who hub = ringFrom (hub .settings .peers) 0 who hub

@@ -1,4 +1,4 @@
--- 'Sections': where they lie, and who may store to them.
+-- Sections (R61 to R65): where they lie, and who may store to them.
 use Prim.Native.Nat.{ℕ, zero, suc, _+_, _*_}
 use mathlib.Core.Bool.{Bool, true, false, cond, _&&_}
 use mathlib.Core.List.{List, [], _∷_}
@@ -17,7 +17,7 @@ pub record Section : Type 0 where
 abbrev pub section : SectionKind → ℕ → ℕ → Section
 section kind start size = record { kind = kind; start = start; size = size }
 
--- 'output of peer i at S + R + i*O', for n peers from i
+-- R61: the output section of peer i at S + R + i * O, for n peers from i
 unfoldable pub outputs : Settings → ℕ → ℕ → List Section
 outputs s i zero = []
 outputs s i (suc n) = section (Output (peerId i)) (s .table + s .common + i * s .output) (s .output) ∷ outputs s (suc i) n
@@ -25,7 +25,7 @@ outputs s i (suc n) = section (Output (peerId i)) (s .table + s .common + i * s 
 unfoldable pub sections : Settings → List Section
 sections s = section StateTable 0 (s .table) ∷ section ReadWrite (s .table) (s .common) ∷ outputs s 0 (s .peers)
 
--- 'A shared range lies whole in one section or in none'
+-- R62: a section holds all bytes of a range
 abbrev pub holds : ℕ → ℕ → Section → Bool
 holds offset length x = leb (x .start) offset && leb (offset + length) (x .start + x .size)
 
@@ -55,14 +55,14 @@ somewhere StateTable = true
 somewhere ReadWrite = true
 somewhere (Output owner) = true
 
--- 'it stores to R/W and its own output'
+-- R63: it may store to the read/write section and to its own output section
 unfoldable pub mayStore : ℕ → SectionKind → Bool
 mayStore who Nothing = false
 mayStore who StateTable = false
 mayStore who ReadWrite = true
 mayStore who (Output owner) = eqb (owner .0) who
 
--- 'a refused question names no section and says no'
+-- R31: no section, and no right to store
 abbrev pub noSection : SectionAnswer
 noSection = record { kind = Nothing; store = false }
 

@@ -1,4 +1,4 @@
--- 'Numbers accepted at set-up', and what a set-up leaves.
+-- Set-up (R10 to R18): the numbers that it accepts, and what it leaves.
 use Prim.Native.Nat.{ℕ, _+_, _*_, _%_, _^_}
 use mathlib.Core.Bool.{Bool, not, cond}
 use mathlib.Core.List.{List, [], _∷_}
@@ -13,7 +13,7 @@ use Rattle.device.specs.World.{Hub, zeroHub, resetSlot}
 abbrev pub paged : ℕ → Bool
 paged x = eqb (x % 4096) 0
 
--- C-16: 'Set-up refuses a base below 100000h with 1; exactly 100000h is taken'
+-- R12 (C-16): a base below it is refused, 100000h itself is taken
 abbrev pub minBase : ℕ
 minBase = 0x100000
 
@@ -55,7 +55,7 @@ setUpRefusal roomy s region =
 unfoldable pub freshHub : Settings → Hub
 freshHub s = record { settings = s; slots = replicate (s .peers) (resetSlot (s .vectors) 0) }
 
--- 'An accepted set-up makes the whole region zero with nobody connected', 'A refused set-up returns an all-zero hub'
+-- R17: an accepted set-up leaves nobody connected and the whole region zero. R18: a refused one leaves the all-zero hub.
 abbrev pub hubAfterSetUp : ℕ → Settings → Hub
 hubAfterSetUp number s = cond (eqb number 0) (freshHub s) zeroHub
 

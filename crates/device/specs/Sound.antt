@@ -1,5 +1,5 @@
--- 'Sound: the set-up numbers would be accepted, bits that can't be written hold their fixed values, and unconnected or unused
--- slots and vectors hold reset values.'
+-- R33 to R35: a hub is sound where its numbers would be accepted, no bit of a connected peer is set that a write cannot set, and
+-- all that belongs to a peer that is not connected is at its reset values.
 use mathlib.Core.Bool.{Bool, cond, _&&_}
 use mathlib.Core.List.{[], _∷_}
 use lib.Dec.{eqb}
@@ -44,7 +44,7 @@ entryFixed e = every (only addressMask (e .low) ∷ only controlMask (e .control
 unfoldable pub entryReset : Entry → Bool
 entryReset e = every (eqb (e .low) 0 ∷ eqb (e .high) 0 ∷ eqb (e .payload) 0 ∷ eqb (e .control) 1 ∷ [])
 
--- 'unconnected .. slots .. hold reset values': the registers and the entries of a peer that is not connected
+-- R34 of a connected peer, R35 of one that is not: its registers, and each of its entries
 unfoldable pub peerSound : Settings → Peer → Bool
 peerSound s p = cond (eqb (p .connected) 1) (peerFixed s p) (peerReset p)
 

@@ -45,12 +45,12 @@ pub record Outcome : Type 0 where
   pub deliveries : List Delivery
   pub world : World
 
--- 'A refusal returns its number, value 0 and no deliveries .. hub, region .. stay as they were'
+-- R31: the number, value 0, no deliveries, and the world as it was
 abbrev pub refused : ℕ → World → Outcome
 refused number w =
     record { number = number; value = 0; answer = noSection; loaded = []; deliveries = []; world = w }
 
--- 'An accepted call answers number 0'
+-- R6: number 0, and what the effect gives
 abbrev pub done : Effect → Ran → Outcome
 done e r =
     record {

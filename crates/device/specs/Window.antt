@@ -1,4 +1,4 @@
--- 'For peer B, its window of a history holds in order' (a) to (d), and demand 3.
+-- The window of a peer B (R69 to R71), its items (a) to (d), and isolation (R72).
 use Prim.Native.Nat.{ℕ, _-_}
 use mathlib.Core.Bool.{Bool, true, false, cond}
 use mathlib.Core.List.{List, [], _∷_, _++_}
@@ -28,8 +28,8 @@ pub data Item : Type 0 where
   -- (d) another's shared store
   bytes : (offset : ℕ) → List ℕ → Item
 
--- 'A peer's Command bit 1 is here bit 1 of the last byte that its accepted configuration writes put at 04h since its last accepted
--- connect or reset, off if there is none': what one accepted call of the peer makes of it.
+-- R71: what one accepted call of a peer makes of its Command bit 1. A connect or reset turns it off, and a configuration write
+-- that covers 04h sets it to bit 1 of the byte written there.
 unfoldable pub memoryAfter : Act → Bool → Bool
 memoryAfter connect on = false
 memoryAfter (disconnect n) on = on
@@ -49,7 +49,7 @@ unfoldable pub memoryBit : ℕ → List Call → Bool
 memoryBit who [] = false
 memoryBit who (c ∷ past) = cond (eqb (c .who) who) (memoryAfter (c .act) (memoryBit who past)) (memoryBit who past)
 
--- (c) 'holds changed values only' (C-11): the value that an id's State takes, where it held another
+-- (c), changed values alone (C-11): the value that an id's State takes, where it held another
 unfoldable pub wordSent : (who old new : ℕ) → List Item
 wordSent who old new = cond (changes old new) (Item.word who new ∷ []) []
 
@@ -99,13 +99,13 @@ windowFrom b past w (c ∷ cs) =
 unfoldable pub window : ℕ → Settings → List Call → List Item
 window b s cs = windowFrom b [] (start s) cs
 
--- Demand 3, what is equal: the answers and deliveries in order, and after the last call the peer's registers and the whole region.
+-- R72, what is equal: the answers and deliveries in order, and after the last call the peer's registers and the whole region.
 pub record Alike (b : ℕ) (s : Settings) (cs ds : List Call) : Type 0 where
   pub observations : observed b (start s) cs ≡ observed b (start s) ds
   pub registers : spacesOf b (after (start s) cs) ≡ spacesOf b (after (start s) ds)
   pub region : after (start s) cs .region ≡ after (start s) ds .region
 
--- Demand 3: 'for every B and every two histories with equal set-up numbers and equal windows'
+-- R72: for every B, and every two histories that start with the same accepted numbers and have equal windows of B
 abbrev pub Isolation : Type 0
 Isolation =
     (s : Settings) → accepted s ≡ true → (b : ℕ) (cs ds : List Call) → window b s cs ≡ window b s ds → Alike b s cs ds

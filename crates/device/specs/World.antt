@@ -45,7 +45,7 @@ zeroSettings =
       subsystem = 0;
     }
 
--- the all-zero hub, which a refused set-up leaves ('When the hub says no'): N is 0, so it has no slot
+-- the all-zero hub, which a refused set-up leaves (R18): N is 0, so it has no slot
 unfoldable pub zeroHub : Hub
 zeroHub = record { settings = zeroSettings; slots = [] }
 

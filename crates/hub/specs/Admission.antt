@@ -1,4 +1,4 @@
--- The checks of 'When the hub says no' in the parts that the code makes: those of the hub, of what is lent and of the id, and
+-- The checks of R19 to R30 in the parts that the code makes: those of the hub, of what is lent and of the id, and
 -- those of an access. proofs/RefusalLaws.antt shows that together they are the table.
 use Prim.Native.Nat.{ℕ, _+_, _*_, _%_, _<_, _≤_}
 use mathlib.Core.Bool.{Bool, true, false, not, _&&_, _||_}

@@ -14,7 +14,7 @@ use Rattle.device.specs.Step.{step}
 use Rattle.device.specs.World.{World, world, zeroHub}
 use Rattle.playback.specs.Log.{Request}
 
--- '83 (target 2, vector 2, address 8, data 4)'
+-- R77: after 83h, 'target 2, vector 2, address 8, data 4'
 abbrev pub parts : Delivery → List ℕ
 parts d = (bytes 2 (d .target .0) ++ bytes 2 (d .vector .0)) ++ (bytes 8 (d .address) ++ bytes 4 (d .payload))
 
@@ -25,7 +25,7 @@ unfoldable pub allDelivered : List Delivery → List ℕ
 allDelivered [] = []
 allDelivered (d ∷ ds) = delivered d ++ allDelivered ds
 
--- '80 with the refusal number in one byte; 81 done; 82 with a 4-byte value', 'after an 81, each delivery'
+-- R77: 80h and the number in one byte; 81h, then each delivery; 82h and a value of 4 bytes
 abbrev pub refusedBy : ℕ → List ℕ
 refusedBy number = 0x80 ∷ bytes 1 number
 
@@ -42,18 +42,18 @@ replied number accepted = cond (eqb number 0) accepted (refusedBy number)
 abbrev pub longest : ℕ
 longest = 1 + 17 * maxPeers
 
--- 'The program refuses T above 32768 with 1.' The words and the region that it lends are as large as the set-up asks for.
+-- R78: T above 32768 is refused with 1. The words and the region that it lends are as large as the set-up asks for.
 abbrev pub maxTotal : ℕ
 maxTotal = 32768
 
 unfoldable pub setUpNumber : Settings → ℕ
 setUpNumber s = cond (leb (total s) maxTotal) (setUpRefusal true s (replicate (total s) 0)) 1
 
--- 'A record before any set-up meets an all-zero hub', whose region is empty
+-- R79: what a record meets before any set-up, the all-zero hub with an empty region
 abbrev pub nowhere : World
 nowhere = world zeroHub []
 
--- 'a set-up starts afresh, and a refused one leaves the all-zero hub'
+-- R79: a set-up begins anew, and after a refused one stands the all-zero hub
 abbrev pub setUpLeaves : ℕ → Settings → World
 setUpLeaves number s = cond (eqb number 0) (start s) nowhere
 

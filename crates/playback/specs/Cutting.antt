@@ -1,4 +1,4 @@
--- C-13: 'Cutting the log into pieces must not change what is written', and what the byte-by-byte definition says of whole records.
+-- R80: cutting a log into pieces changes nothing of what is written; and what the byte-by-byte definition says of whole records.
 use Prim.Native.Nat.{ℕ, _<_}
 use mathlib.Core.Bool.{false, true}
 use mathlib.Core.List.{List, [], _∷_, _++_}

@@ -1,4 +1,4 @@
--- C-13: 'A log is records, each one byte of kind, then a body whose length the kind fixes, little-endian'.
+-- C-13: a log is a sequence of records, one byte of kind and then a body whose length the kind gives (R76).
 use Prim.Native.Nat.{ℕ, _+_}
 use mathlib.Core.Bool.{Bool, cond}
 use mathlib.Core.List.{List, [], _∷_}

@@ -27,11 +27,11 @@ after a = fedTo (player (a .world) [] (a .stops)) (a .written)
 unfoldable pub come : World → List ℕ → Fed Player
 come w r = cond (whole r) (after (answer w (requestOf (kindOf r) r))) (fedTo (player w r false) [])
 
--- one byte; 'both stop': nothing is read after an unknown kind
+-- one byte; after an unknown kind nothing is read (R77)
 unfoldable pub fed : Player → ℕ → Fed Player
 fed p byte = cond (p .stopped) (fedTo p []) (come (p .world) (p .held ++ (byte ∷ [])))
 
--- 'A log that ends inside a record gives 84'
+-- R77: 84h where the log ends inside a record
 unfoldable pub inside : Player → Bool
 inside p = not (p .stopped) && not (eqb (length (p .held)) 0)
 
