@@ -1,6 +1,8 @@
 /* The header's sizes are the library's: a hub of each size is set up in just so many words, a word less or more is refused and
    left all zero, and so is one peer or one vector more than the most. The last peer of the largest is there, and its table has
-   a record for each peer. The lowest base is the header's, too. Prints what is not so. */
+   a record for each peer. The lowest base is the header's, too, and the header's helpers answer 0 for what does not fit. Prints
+   what is not so. */
+#include <inttypes.h>
 #include <stdio.h>
 
 #include "ivshmem.h"
@@ -15,13 +17,14 @@ static int wrong(const char *what, uint64_t number, uint64_t expected)
 {
     if (number == expected)
         return 0;
-    printf("%s: %u and not %u\n", what, (unsigned)number, (unsigned)expected);
+    printf("%s: %" PRIu64 " and not %" PRIu64 "\n", what, number, expected);
     return 1;
 }
 
 static uint32_t set_up_at(uint64_t base, size_t words, uint64_t peers, uint64_t vectors)
 {
-    const ivshmem_settings settings = {.peers = peers, .vectors = vectors, .state_table = STATE_TABLE, .base = base, .protocol = 1};
+    const ivshmem_settings settings = {.peers = peers, .vectors = vectors, .state_table = STATE_TABLE, .base = base,
+                                       .protocol = 1};
 
     return ivshmem_set_up_hub(hub, words, region, STATE_TABLE, settings).number;
 }
@@ -63,11 +66,41 @@ static int size(uint64_t peers, uint64_t vectors)
         || wrong("a word more at a call", ivshmem_connect(hub, words + 1, 0).number, IVSHMEM_UNSOUND_HUB);
 }
 
+static int total(const char *what, uint64_t peers, uint64_t state_table, uint64_t read_write, uint64_t output, uint64_t expected)
+{
+    const ivshmem_settings settings = {.peers = peers, .state_table = state_table, .read_write = read_write, .output = output};
+
+    return wrong(what, ivshmem_total(&settings), expected);
+}
+
+static int hub_words(const char *what, uint64_t peers, uint64_t vectors, uint64_t expected)
+{
+    const ivshmem_settings settings = {.peers = peers, .vectors = vectors};
+
+    return wrong(what, ivshmem_hub_words(&settings), expected);
+}
+
+static int helpers(void)
+{
+    const uint64_t most = UINT64_MAX, page = 4096;
+
+    return total("a total", 3, page, 2 * page, 4 * page, 15 * page)
+         + total("no peers", 0, page, page, most, 2 * page)
+         + total("the largest total", 2, 1, 0, (most - 1) / 2, most)
+         + total("a product too large", 2, 3, 0, (most - 1) / 2, 0)
+         + total("a product that comes round", 64, page, 0, (uint64_t)1 << 58, 0)
+         + total("a sum that comes round", 2, 2 * page, most - page + 1, 0, 0)
+         + hub_words("words", IVSHMEM_MAX_PEERS, IVSHMEM_MAX_VECTORS, IVSHMEM_MAX_HUB_WORDS)
+         + hub_words("words of a peer more", IVSHMEM_MAX_PEERS + 1, 1, 0)
+         + hub_words("words of a vector more", 2, IVSHMEM_MAX_VECTORS + 1, 0)
+         + hub_words("words that come round", (uint64_t)1 << 61, 1, 0);
+}
+
 int main(void)
 {
     const uint64_t peers = IVSHMEM_MAX_PEERS, vectors = IVSHMEM_MAX_VECTORS;
     const size_t words = IVSHMEM_MAX_HUB_WORDS;
-    int faults = 0;
+    int faults = helpers();
 
     for (uint64_t p = 2; p <= peers; p++)
         for (uint64_t v = 1; v <= vectors; v++)

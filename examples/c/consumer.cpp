@@ -1,0 +1,79 @@
+// A host in C++17 over the same header and archive: two peers, one rings the other. Ends with 1 where an answer is not the one that
+// it has to be.
+#include <cstddef>
+#include <cstdint>
+#include <cstdio>
+#include <vector>
+
+#include "ivshmem.h"
+
+namespace {
+
+class Hub {
+public:
+    explicit Hub(const ivshmem_settings &settings)
+        : words(ivshmem_hub_words(&settings)), region(ivshmem_total(&settings)), table(settings.peers),
+          answer(ivshmem_set_up_hub(words.data(), words.size(), region.data(), region.size(), settings))
+    {
+    }
+
+    std::uint32_t set_up_answer() const { return answer.number; }
+    bool is_sound() const { return ivshmem_is_sound(words.data(), words.size()) == 1; }
+    bool connect(std::uint64_t id) { return ivshmem_connect(words.data(), words.size(), id).number == IVSHMEM_ACCEPTED; }
+
+    bool configure(std::uint64_t id, std::uint64_t offset, std::uint64_t width, std::uint32_t value)
+    {
+        return ivshmem_configuration_write(words.data(), words.size(), id, offset, width, value).number == IVSHMEM_ACCEPTED;
+    }
+
+    bool message(std::uint64_t id, std::uint64_t offset, std::uint32_t value)
+    {
+        return ivshmem_msix_write(words.data(), words.size(), id, offset, 4, value).number == IVSHMEM_ACCEPTED;
+    }
+
+    std::vector<ivshmem_delivery> write(std::uint64_t id, std::uint64_t offset, std::uint32_t value)
+    {
+        const ivshmem_counted told = ivshmem_register_write(words.data(), words.size(), region.data(), region.size(),
+                                                            table.data(), table.size(), id, offset, 4, value);
+        return {table.begin(), table.begin() + static_cast<std::ptrdiff_t>(told.count)};
+    }
+
+private:
+    std::vector<std::uint32_t> words;
+    std::vector<std::uint8_t> region;
+    std::vector<ivshmem_delivery> table;
+    ivshmem_reply answer;
+};
+
+bool switch_on(Hub &hub, std::uint64_t id)
+{
+    return hub.connect(id)
+        && hub.configure(id, IVSHMEM_CONFIGURATION_COMMAND, 2, IVSHMEM_COMMAND_MEMORY | IVSHMEM_COMMAND_BUS_MASTER)
+        && hub.message(id, IVSHMEM_MSIX_DATA, 0x40) && hub.message(id, IVSHMEM_MSIX_CONTROL, 0)
+        && hub.configure(id, IVSHMEM_CONFIGURATION_MESSAGE_CONTROL, 2, IVSHMEM_MESSAGE_ENABLE)
+        && hub.write(id, IVSHMEM_REGISTER_INTERRUPT_CONTROL, 1).empty();
+}
+
+} // namespace
+
+int main()
+{
+    ivshmem_settings settings = {};
+    settings.peers = 2;
+    settings.vectors = 1;
+    settings.state_table = 4096;
+    settings.base = IVSHMEM_MIN_BASE;
+    Hub hub(settings);
+
+    if (hub.set_up_answer() != IVSHMEM_ACCEPTED || !hub.is_sound() || !switch_on(hub, 0) || !switch_on(hub, 1)) {
+        std::puts("C++: no hub");
+        return 1;
+    }
+    const std::vector<ivshmem_delivery> told = hub.write(0, IVSHMEM_REGISTER_DOORBELL, 0x00010000);
+    if (told.size() != 1 || told[0].target != 1 || told[0].vector != 0 || told[0].data != 0x40) {
+        std::puts("C++: peer 1 is not rung");
+        return 1;
+    }
+    settings.peers = 1;
+    return Hub(settings).set_up_answer() == IVSHMEM_BAD_SETTING ? 0 : 1;
+}
