@@ -32,7 +32,14 @@ extern "C" {
 /* The compiler warns of an answer that nobody looks at. */
 #if defined(__GNUC__)
 #define IVSHMEM_MUST_USE __attribute__((warn_unused_result))
+#if defined(__has_attribute)
+#if __has_attribute(retain)
+#define IVSHMEM_KEPT __attribute__((used, retain)) /* also by a linker that leaves out what nothing refers to */
+#endif
+#endif
+#ifndef IVSHMEM_KEPT
 #define IVSHMEM_KEPT __attribute__((used))
+#endif
 #else
 #define IVSHMEM_MUST_USE
 #define IVSHMEM_KEPT
