@@ -1,5 +1,5 @@
-// A host in C++17 over the same header and archive: two peers, one rings the other. Ends with 1 where an answer is not the one that
-// it has to be.
+// A host in C++17 over the same header and archive: two peers, one rings the other. Ends with 1 where an answer is not the one
+// that it has to be.
 #include <cstddef>
 #include <cstdint>
 #include <cstdio>
