@@ -1,7 +1,5 @@
 //! Runs histories on a subject and on the model side by side.
 
-use std::fmt;
-
 use ivshmem::Settings;
 
 use crate::call::{Call, Event};
@@ -9,7 +7,7 @@ use crate::count::Counts;
 use crate::generate::Generator;
 use crate::hub::Hub;
 use crate::layout::decode;
-use crate::shrink::shrink;
+use crate::shrink::{Failure, shrink};
 use crate::subject::{Answer, Model, Subject};
 use crate::world::World;
 
@@ -72,27 +70,6 @@ impl<S: Subject> Pair<S> {
     }
 }
 
-/// A history after which subject and model differ, cut short.
-#[derive(Debug)]
-pub struct Failure {
-    /// What is left of the history.
-    pub events: Vec<Event>,
-    /// What differs after its last event.
-    pub difference: String,
-    /// How long the history was before it was cut.
-    pub found_after: usize,
-}
-
-impl fmt::Display for Failure {
-    fn fmt(&self, f: &mut fmt::Formatter<'_>) -> fmt::Result {
-        writeln!(f, "a history of {} events, cut from {}:", self.events.len(), self.found_after)?;
-        for (at, event) in self.events.iter().enumerate() {
-            writeln!(f, "{:>4}. {event}", at + 1)?;
-        }
-        write!(f, "then {}", self.difference)
-    }
-}
-
 /// Replays a history on fresh memory; the place and the words of the first difference.
 pub fn replay<S: Subject>(subject: S, events: &[Event]) -> Option<(usize, String)> {
     let mut pair = Pair::new(subject);
@@ -116,7 +93,7 @@ pub fn run<S: Subject>(make: impl Fn() -> S, seed: u64, calls: u64) -> Result<Co
             events.push(event);
             let last = events.last().expect("just pushed");
             if pair.apply(last, &mut counts).is_err() {
-                return Err(shrink(&make, events));
+                return Err(shrink(&|events| replay(make(), events), events));
             }
         }
     }

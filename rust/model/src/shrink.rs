@@ -1,40 +1,64 @@
 //! Cuts a failing history short: drops events, lets fewer peers do it, then makes numbers simpler, as long as it still fails.
 
 use std::collections::BTreeSet;
+use std::fmt;
 
 use crate::call::{Call, Event, Lengths};
-use crate::compare::{Failure, replay};
 use crate::hub::MIN_BASE;
-use crate::subject::Subject;
 
 /// How often a number is made simpler, and how often the whole is gone over.
 const ROUNDS: usize = 50;
 
+/// Runs a history anew; the place and the words of the first difference.
+pub type Replay<'a> = &'a dyn Fn(&[Event]) -> Option<(usize, String)>;
+
+/// A history after which subject and model differ, cut short.
+#[derive(Debug)]
+pub struct Failure {
+    /// What is left of the history.
+    pub events: Vec<Event>,
+    /// What differs after its last event.
+    pub difference: String,
+    /// How long the history was before it was cut.
+    pub found_after: usize,
+}
+
+impl fmt::Display for Failure {
+    fn fmt(&self, f: &mut fmt::Formatter<'_>) -> fmt::Result {
+        writeln!(f, "a history of {} events, cut from {}:", self.events.len(), self.found_after)?;
+        for (at, event) in self.events.iter().enumerate() {
+            writeln!(f, "{:>4}. {event}", at + 1)?;
+        }
+        write!(f, "then {}", self.difference)
+    }
+}
+
 /// The shortest history found that still shows a difference.
-pub fn shrink<S: Subject>(make: &impl Fn() -> S, mut events: Vec<Event>) -> Failure {
+#[must_use]
+pub fn shrink(replay: Replay<'_>, mut events: Vec<Event>) -> Failure {
     let found_after = events.len();
-    cut_after_failure(make, &mut events);
+    cut_after_failure(replay, &mut events);
     for _ in 0..ROUNDS {
         let before = events.clone();
-        drop_events(make, &mut events);
-        drop_pairs(make, &mut events);
-        join_peers(make, &mut events);
-        simplify_events(make, &mut events);
+        drop_events(replay, &mut events);
+        drop_pairs(replay, &mut events);
+        join_peers(replay, &mut events);
+        simplify_events(replay, &mut events);
         if events == before {
             break;
         }
     }
-    let difference = replay(make(), &events).map_or("nothing differs when replayed".to_string(), |(_, text)| text);
+    let difference = replay(&events).map_or("nothing differs when replayed".to_string(), |(_, text)| text);
     Failure { events, difference, found_after }
 }
 
-fn cut_after_failure<S: Subject>(make: &impl Fn() -> S, events: &mut Vec<Event>) {
-    if let Some((at, _)) = replay(make(), events) {
+fn cut_after_failure(replay: Replay<'_>, events: &mut Vec<Event>) {
+    if let Some((at, _)) = replay(events) {
         events.truncate(at + 1);
     }
 }
 
-fn drop_events<S: Subject>(make: &impl Fn() -> S, events: &mut Vec<Event>) {
+fn drop_events(replay: Replay<'_>, events: &mut Vec<Event>) {
     let mut size = events.len() / 2;
     while size > 0 {
         let mut end = events.len();
@@ -42,9 +66,9 @@ fn drop_events<S: Subject>(make: &impl Fn() -> S, events: &mut Vec<Event>) {
             let start = end.saturating_sub(size);
             let mut shorter = events.clone();
             shorter.drain(start..end);
-            if replay(make(), &shorter).is_some() {
+            if replay(&shorter).is_some() {
                 *events = shorter;
-                cut_after_failure(make, events);
+                cut_after_failure(replay, events);
             }
             end = start.min(events.len());
         }
@@ -53,31 +77,31 @@ fn drop_events<S: Subject>(make: &impl Fn() -> S, events: &mut Vec<Event>) {
 }
 
 /// Two events that undo each other only go together; this looks at all pairs, so the history must be short by now.
-fn drop_pairs<S: Subject>(make: &impl Fn() -> S, events: &mut Vec<Event>) {
+fn drop_pairs(replay: Replay<'_>, events: &mut Vec<Event>) {
     let pairs = |length: usize| (0..length).flat_map(move |second| (0..second).map(move |first| (first, second)));
     while let Some(shorter) = pairs(events.len().min(40)).find_map(|(first, second)| {
         let mut shorter = events.clone();
         shorter.remove(second);
         shorter.remove(first);
-        replay(make(), &shorter).map(|_| shorter)
+        replay(&shorter).map(|_| shorter)
     }) {
         *events = shorter;
     }
 }
 
 /// Lets one peer do what two did: where there are many, a history has more of them than it needs.
-fn join_peers<S: Subject>(make: &impl Fn() -> S, events: &mut Vec<Event>) {
+fn join_peers(replay: Replay<'_>, events: &mut Vec<Event>) {
     let ids: BTreeSet<u64> = events.iter_mut().filter_map(|event| id_of(event).copied()).collect();
     for (from, to) in ids.iter().flat_map(|from| ids.range(..from).map(move |to| (from, to))) {
         let mut joined = events.clone();
         for id in joined.iter_mut().filter_map(id_of).filter(|id| **id == *from) {
             *id = *to;
         }
-        if joined != *events && replay(make(), &joined).is_some() {
+        if joined != *events && replay(&joined).is_some() {
             *events = joined;
         }
     }
-    cut_after_failure(make, events);
+    cut_after_failure(replay, events);
 }
 
 /// The peer that a call is by or on.
@@ -91,21 +115,21 @@ fn id_of(event: &mut Event) -> Option<&mut u64> {
     }
 }
 
-fn simplify_events<S: Subject>(make: &impl Fn() -> S, events: &mut Vec<Event>) {
+fn simplify_events(replay: Replay<'_>, events: &mut Vec<Event>) {
     for at in 0..events.len() {
         // Each round takes the first simpler form that still fails. Going down by ones can take long, so not all the way.
         for _ in 0..ROUNDS {
             let Some(simpler) = simpler_forms(&events[at]).into_iter().find(|form| {
                 let mut candidate = events.clone();
                 candidate[at] = form.clone();
-                replay(make(), &candidate).is_some()
+                replay(&candidate).is_some()
             }) else {
                 break;
             };
             events[at] = simpler;
         }
     }
-    cut_after_failure(make, events);
+    cut_after_failure(replay, events);
 }
 
 /// Forms of an event with one number made simpler; every number only goes down, so that this comes to an end.

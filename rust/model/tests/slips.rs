@@ -5,10 +5,11 @@ use std::collections::HashMap;
 
 use ivshmem::{MAX_PEERS, MAX_VECTORS, MIN_BASE, Section, Settings};
 use model::call::Call;
-use model::compare::{self, Failure};
+use model::compare;
 use model::hub::{Block, Hub, Numbers, Ring};
 use model::layout::{BASE_WORDS, decode, decode_numbers, encode, hub_words};
 use model::one_shot;
+use model::shrink::Failure;
 use model::subject::{Answer, Lent, Met, Model, Subject};
 
 /// A model and what goes wrong with it.
