@@ -76,6 +76,12 @@ pub fn state_word(id: u64) -> usize {
     PEERS_AT + PEER_WORDS * id as usize + PEER_WORDS - 1
 }
 
+/// The word of a peer's Interrupt Control.
+#[must_use]
+pub fn interrupt_word(id: u64) -> usize {
+    state_word(id) - 1
+}
+
 fn decode_peer(row: &[u32; PEER_WORDS]) -> Peer {
     let [connected, command, bar0, bar1, privileged, message, interrupt, state] = *row;
     Peer { connected, command, bar0, bar1, privileged, message, interrupt, state }

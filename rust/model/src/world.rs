@@ -69,6 +69,12 @@ impl World {
         &self.table
     }
 
+    /// The buffer that the last call was lent.
+    #[must_use]
+    pub fn buffer(&self) -> &[u8] {
+        &self.buffer[..self.in_buffer - SLACK]
+    }
+
     /// The region's right length.
     #[must_use]
     pub fn total(&self) -> usize {
