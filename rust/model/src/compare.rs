@@ -58,7 +58,19 @@ impl<S: Subject> Pair<S> {
         {
             return Err("a refused set-up leaves words that are not zero".into());
         }
+        if is_asked_after(event, models.as_ref()) {
+            self.ask(event, counts)?;
+        }
         self.ours.difference(&self.models).map_or(Ok(models), Err)
+    }
+
+    /// Asks both sides the host's questions about the words that the last call was lent, as they are now, and about its peer.
+    fn ask(&mut self, event: &Event, counts: &mut Counts) -> Result<(), String> {
+        let id = if let Event::Call(call, _) = event { call.peer() } else { None }.unwrap_or_default();
+        let Some(ours) = self.subject.ask(self.ours.lent_words(), id) else { return Ok(()) };
+        let models = self.model.ask(self.models.lent_words(), id).expect("the model answers");
+        counts.add_asked(&models);
+        if ours == models { Ok(()) } else { Err(format!("asked about peer {id}: {ours:?}; the model says {models:?}")) }
     }
 
     fn next_event(&self, generator: &mut Generator) -> Event {
@@ -67,6 +79,18 @@ impl<S: Subject> Pair<S> {
         }
         let hub = decode(self.models.hub_words()).unwrap_or(Hub::NONE);
         generator.next(&hub, self.models.total())
+    }
+}
+
+/// Whether the host asks its questions after this event: where a call is refused, a hub is set up or broken, or a peer comes or
+/// goes; of the rest, after configuration reads alone, since questions take as long as calls.
+fn is_asked_after(event: &Event, answer: Option<&Answer>) -> bool {
+    let refused = answer.is_some_and(|answer| answer.number != 0);
+    match event {
+        Event::Call(Call::SetUp(_) | Call::Connect { .. } | Call::Disconnect { .. } | Call::Reset { .. }, _) => true,
+        Event::Call(Call::ConfigurationRead { .. }, _) => true,
+        Event::Call(..) => refused,
+        Event::Flip { .. } | Event::Plant(..) => true,
     }
 }
 

@@ -8,7 +8,7 @@ use ivshmem::{MAX_HUB_WORDS, Settings, register};
 use crate::call::{Call, KINDS};
 use crate::generate::{FEW_PEERS, FEW_VECTORS};
 use crate::hub::{Block, MAX_PEERS, MAX_VECTORS, MIN_BASE, Numbers, Ring};
-use crate::subject::{Answer, Handed, Model};
+use crate::subject::{Answer, Asked, Handed, Model};
 
 /// The numbers that each kind of call can answer, in the order of [`KINDS`].
 pub const POSSIBLE: [&[u32]; 13] = [
@@ -148,6 +148,16 @@ pub const BASES: [(&str, u64); 7] = [
 /// How many of [`BASES`], from the first on, are calls but set-ups.
 pub const ON_BASES: usize = 3;
 
+/// What is counted of the host's questions, and how often it must be seen in a million calls of random histories.
+pub const QUESTIONS: [(&str, u64); 6] = [
+    ("asked about words that are a sound hub", 150_000),
+    ("asked about words that are not", 20_000),
+    ("asked about a peer that is connected", 100_000),
+    ("asked about a peer that is not", 15_000),
+    ("asked about a peer, refused with 3", 15_000),
+    ("asked about a peer, refused with 10", 20_000),
+];
+
 /// Counts of calls by kind and number, of rings by outcome, and of what is at the edges of the sizes.
 #[derive(Clone, Debug, Default)]
 pub struct Counts {
@@ -173,6 +183,8 @@ pub struct Counts {
     pub states: [u64; STATES.len()],
     /// In the order of [`WORDS`].
     pub words: [u64; WORDS.len()],
+    /// In the order of [`QUESTIONS`].
+    pub questions: [u64; QUESTIONS.len()],
     /// The numbers of peers and vectors of hubs that a call was taken on.
     pub hubs: BTreeSet<(u64, u64)>,
 }
@@ -217,11 +229,23 @@ impl Counts {
         }
     }
 
-    /// The counts of [`SIZES`], [`BASES`], [`STATES`] and [`WORDS`], each with its name and its least.
+    /// Takes in the answers to the host's questions.
+    pub fn add_asked(&mut self, asked: &Asked) {
+        let Asked { sound, connected: Answer { number, value, .. } } = *asked;
+        let holds =
+            [sound == 1, sound == 0, (number, value) == (0, 1), (number, value) == (0, 0), number == 3, number == 10];
+        for (count, holds) in self.questions.iter_mut().zip(holds) {
+            *count += u64::from(holds);
+        }
+    }
+
+    /// The counts of [`SIZES`], [`BASES`], [`STATES`], [`WORDS`] and [`QUESTIONS`], each with its name and its least.
     fn named(&self) -> impl Iterator<Item = (&(&'static str, u64), u64)> {
         let sizes = SIZES.iter().zip(self.sizes);
         let bases = BASES.iter().zip(self.bases);
-        sizes.chain(bases).chain(STATES.iter().zip(self.states)).chain(WORDS.iter().zip(self.words))
+        let states = STATES.iter().zip(self.states);
+        let words = WORDS.iter().zip(self.words);
+        sizes.chain(bases).chain(states).chain(words).chain(QUESTIONS.iter().zip(self.questions))
     }
 
     fn add_lost(&mut self, blocks: &[Block]) {
@@ -231,8 +255,8 @@ impl Counts {
         }
     }
 
-    /// What is not covered `least` times, or of [`SIZES`], [`BASES`], [`STATES`] and [`WORDS`] as often as they ask, or should
-    /// never have been answered, in words; empty is good.
+    /// What is not covered `least` times, or of [`SIZES`], [`BASES`], [`STATES`], [`WORDS`] and [`QUESTIONS`] as often as they
+    /// ask, or should never have been answered, in words; empty is good.
     #[must_use]
     pub fn gaps(&self, least: u64) -> Vec<String> {
         let mut gaps = Vec::new();

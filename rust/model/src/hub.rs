@@ -329,6 +329,15 @@ impl Hub {
         Ok(Hub::fresh(numbers))
     }
 
+    /// A question of the host: 1 where the peer is connected, else 0.
+    ///
+    /// # Errors
+    /// 10 or 3.
+    pub fn is_connected(&self, id: u64) -> Result<u32, Refused> {
+        refuse_where(&[(10, !self.sound()), (3, id >= self.numbers.peers)])?;
+        Ok(self.peers[id as usize].connected)
+    }
+
     /// "Connect: reset values, no ring."
     ///
     /// # Errors

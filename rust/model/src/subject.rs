@@ -35,10 +35,22 @@ pub struct Lent<'a> {
     pub buffer: &'a mut [u8],
 }
 
+/// The answers to the host's questions about words: whether they are a sound hub, and whether a peer of it is connected.
+#[derive(Clone, Copy, Debug, PartialEq, Eq)]
+pub struct Asked {
+    pub sound: u32,
+    pub connected: Answer,
+}
+
 /// Something that answers calls.
 pub trait Subject {
     /// Makes the call on the lent memory.
     fn perform(&mut self, call: &Call, lent: Lent<'_>) -> Answer;
+
+    /// Answers the host's questions; not every subject does.
+    fn ask(&mut self, _words: &[u32], _id: u64) -> Option<Asked> {
+        None
+    }
 }
 
 impl From<Reply> for Answer {
@@ -81,6 +93,10 @@ impl Subject for Library {
             Call::Load { id, offset, .. } => raw::load(words, region, id, offset, buffer).into(),
             Call::Store { id, offset, .. } => raw::store(words, region, id, offset, buffer).into(),
         }
+    }
+
+    fn ask(&mut self, words: &[u32], id: u64) -> Option<Asked> {
+        Some(Asked { sound: raw::is_sound(words), connected: raw::is_connected(words, id).into() })
     }
 }
 
@@ -236,6 +252,15 @@ impl Subject for Model {
                 answer
             }
         }
+    }
+
+    fn ask(&mut self, words: &[u32], id: u64) -> Option<Asked> {
+        let connected = match decode(words).map_or(Err(Refused(vec![10])), |hub| hub.is_connected(id)) {
+            Ok(value) => Answer { value, ..Answer::default() },
+            Err(refused) => Answer { number: refused.number(), ..Answer::default() },
+        };
+        // Sound is what is not refused with 10.
+        Some(Asked { sound: (connected.number != 10).into(), connected })
     }
 }
 

@@ -241,6 +241,8 @@ fn hand_in(name: &str, seed: u64, sorts: &Sorts) -> ([Seen; 3], Counts) {
     // Every kind of call was answered on hubs that are sound and refused on those that are not.
     assert!(counts.calls.iter().all(|kind| kind[0] >= 1_000 && kind[10] >= 1_000));
     assert!(counts.delivered >= 1_000);
+    // The host's questions had every answer that they can have.
+    assert!(counts.questions.iter().all(|&asked| asked >= 20_000));
     (seen, counts)
 }
 

@@ -10,7 +10,7 @@ use model::hub::{Block, Hub, Numbers, Ring};
 use model::layout::{BASE_WORDS, decode, decode_numbers, encode, hub_words};
 use model::one_shot;
 use model::shrink::Failure;
-use model::subject::{Answer, Lent, Met, Model, Subject};
+use model::subject::{Answer, Asked, Lent, Met, Model, Subject};
 
 /// A model and what goes wrong with it.
 struct Wrong<F> {
@@ -43,14 +43,33 @@ fn right_then(
     answer
 }
 
+/// A model that answers calls rightly, and the host's questions with a slip.
+struct Misled {
+    model: Model,
+    slip: fn(&[u32], u64, Asked) -> Asked,
+}
+
+impl Subject for Misled {
+    fn perform(&mut self, call: &Call, lent: Lent<'_>) -> Answer {
+        self.model.perform(call, lent)
+    }
+
+    fn ask(&mut self, words: &[u32], id: u64) -> Option<Asked> {
+        self.model.ask(words, id).map(|asked| (self.slip)(words, id, asked))
+    }
+}
+
 /// Runs until the slip shows, prints what is left of the history and checks that it is short.
 fn is_found<F, M>(name: &str, longest: usize, make: M)
 where
     F: FnMut(&mut Model, &Call, Lent<'_>) -> Answer,
     M: Fn() -> F,
 {
-    let subject = || Wrong { model: Model::default(), slip: make() };
-    let failure: Failure = compare::run(subject, 3, 200_000).expect_err(name);
+    comes_to_light(name, longest, || Wrong { model: Model::default(), slip: make() });
+}
+
+fn comes_to_light<S: Subject>(name: &str, longest: usize, subject: impl Fn() -> S) {
+    let failure: Failure = compare::run(&subject, 3, 200_000).expect_err(name);
     println!("{name}: {failure}\n");
     assert!(failure.events.len() <= longest, "{name}: {failure}");
     assert!(compare::replay(subject(), &failure.events).is_some(), "{name}: the cut history fails by itself");
@@ -519,4 +538,33 @@ fn reads_entries_with_the_largest_strides() {
     reads_entries_of("entries stand as in the largest hub", Some(MAX_PEERS), Some(MAX_VECTORS));
     reads_entries_of("a column has a place for the most peers", Some(MAX_PEERS), None);
     reads_entries_of("every peer has the most vectors", None, Some(MAX_VECTORS));
+}
+
+#[test]
+fn answers_the_hosts_questions_wrongly() {
+    let misled = |name, longest, slip| comes_to_light(name, longest, || Misled { model: Model::default(), slip });
+    misled("a hub with good settings is sound", 3, |words, _, asked| {
+        let numbers = decode_numbers(words);
+        Asked { sound: (numbers.accepted() && hub_words(&numbers) == words.len() as u128).into(), ..asked }
+    });
+    misled("a sound hub with words behind it is sound", 2, |words, _, asked| {
+        let front = usize::try_from(hub_words(&decode_numbers(words))).ok().and_then(|asked| words.get(..asked));
+        Asked { sound: front.and_then(decode).is_some_and(|hub| hub.sound()).into(), ..asked }
+    });
+    misled("a peer that does not exist is not connected", 2, |_, _, asked| match asked.connected.number {
+        3 => Asked { connected: Answer::default(), ..asked },
+        _ => asked,
+    });
+    misled("an id is cut to 32 bits", 2, |words, id, asked| {
+        let cut = Model::default().ask(words, id & 0xffff_ffff);
+        Asked { connected: cut.map_or(asked.connected, |cut| cut.connected), ..asked }
+    });
+    misled("a peer of a hub that is not sound is connected", 3, |words, id, asked| match asked.connected.number {
+        10 => {
+            let peers = decode(words).map_or(Vec::new(), |hub| hub.peers);
+            let value = peers.get(id as usize).map_or(0, |peer| peer.connected);
+            Asked { connected: Answer { value, ..Answer::default() }, ..asked }
+        }
+        _ => asked,
+    });
 }
