@@ -1,6 +1,6 @@
 //! The cases of the rules' bench, on the model and the library at once.
 
-use ivshmem::{Delivery, PeerId, Settings, Vector, hub_words};
+use ivshmem::{Delivery, PeerId, Refusal, Settings, Vector, hub_words};
 use model::call::{Call, Event, Lengths};
 use model::compare::Pair;
 use model::count::Counts;
@@ -359,13 +359,20 @@ fn every_call() -> [Call; 12] {
     ]
 }
 
-/// The largest region there is; it takes a gigabyte.
+/// The largest region there is, of a gigabyte: all of it is made zero, and its last byte can be stored and loaded.
 #[test]
-#[ignore = "takes a gigabyte of memory"]
 fn largest_region() {
-    let mut region = vec![0xa5; 1 << 30];
-    let settings = Settings { read_write: (1 << 30) - 4096, ..four_peers(4) };
+    const TOTAL: usize = 1 << 30;
+    const LAST: u64 = TOTAL as u64 - 1;
+    let mut region = vec![0xa5; TOTAL];
+    let settings = Settings { read_write: TOTAL as u64 - 4096, ..four_peers(4) };
     let mut words = [0; hub_words(4, 4)];
-    let hub = ivshmem::Hub::set_up(&mut words, &settings, &mut region);
-    assert!(hub.is_ok() && region.iter().all(|&byte| byte == 0));
+    let mut hub = ivshmem::Hub::set_up(&mut words, &settings, &mut region).expect("the set-up is accepted");
+    assert!(region.chunks(4096).all(|page| page == [0; 4096]));
+    hub.connect(PeerId(3)).expect("the peer joins");
+    assert_eq!(hub.store(&mut region, PeerId(3), LAST, &[7]), Ok(()));
+    assert_eq!(hub.store(&mut region, PeerId(3), LAST, &[8, 9]), Err(Refusal::OutOfRange));
+    let mut loaded = [0; 2];
+    assert_eq!(hub.load(&region, PeerId(3), LAST - 1, &mut loaded), Ok(()));
+    assert_eq!(loaded, [0, 7]);
 }
