@@ -269,7 +269,7 @@ fn cut<S: Subject>(make: &impl Fn() -> S, leak: &mut Leak) {
     }
 }
 
-/// Runs pairs of histories until so many have equal windows.
+/// Makes so many pairs of histories, runs them, and compares those with equal windows.
 ///
 /// # Errors
 /// The first pair that the peer can tell apart, cut short.
@@ -277,7 +277,7 @@ pub fn run<S: Subject>(make: impl Fn() -> S, seed: u64, pairs: u64) -> Result<Ta
     let mut maker = Maker::new(seed);
     let mut tally = Tally::default();
     let mut worlds = [World::default(), World::default()];
-    while tally.pairs < pairs {
+    for _ in 0..pairs {
         let plan = maker.plan();
         let [mut first, mut second] = worlds.each_mut().map(|world| Run::new(make(), world, &plan.settings, plan.of));
         write_first(&mut maker, &plan, &mut first);

@@ -16,7 +16,6 @@ fn library_and_model_agree() {
     };
     // Printed past the test's capture, so that every run shows it.
     let _ = writeln!(std::io::stdout().lock(), "{counts}\n{:.1} s", start.elapsed().as_secs_f64());
-    assert!(counts.total() >= CALLS);
 
     // Every answer that a call can give, every switch that alone stops a ring, the edges of the sizes and of the base, words of
     // wrong numbers, and nothing that can't be.

@@ -237,7 +237,6 @@ fn hand_in(name: &str, seed: u64, sorts: &Sorts) -> ([Seen; 3], Counts) {
         }
     }
     report(name, sorts, &seen, &counts);
-    assert!(counts.total() >= 1_000_000);
     // Every kind of call was answered on hubs that are sound and refused on those that are not.
     assert!(counts.calls.iter().all(|kind| kind[0] >= 1_000 && kind[10] >= 1_000));
     assert!(counts.delivered >= 1_000);

@@ -15,7 +15,8 @@ use model::subject::{Answer, Lent, Library, Subject};
 fn equal_windows_look_the_same() {
     const PAIRS: u64 = 40_000;
     let start = Instant::now();
-    let tally = match isolation::run(|| Library, 17, PAIRS) {
+    // Some of those that are made have other windows.
+    let tally = match isolation::run(|| Library, 17, PAIRS + 2_000) {
         Ok(tally) => tally,
         Err(leak) => panic!("{leak}"),
     };

@@ -10,7 +10,7 @@ use model::hub::{Block, Hub, Numbers, Ring};
 use model::layout::{BASE_WORDS, decode, decode_numbers, encode, hub_words};
 use model::one_shot;
 use model::shrink::Failure;
-use model::subject::{Answer, Asked, Lent, Met, Model, Subject};
+use model::subject::{Answer, Asked, Lent, Library, Met, Model, Subject};
 
 /// A model and what goes wrong with it.
 struct Wrong<F> {
@@ -73,6 +73,7 @@ fn comes_to_light<S: Subject>(name: &str, longest: usize, subject: impl Fn() -> 
     println!("{name}: {failure}\n");
     assert!(failure.events.len() <= longest, "{name}: {failure}");
     assert!(compare::replay(subject(), &failure.events).is_some(), "{name}: the cut history fails by itself");
+    assert_eq!(compare::replay(Library, &failure.events), None, "{name}: the library does not make this slip");
 }
 
 /// A slip of one-shot mode: found by the comparison, and by the balance of interrupts and own stores.
