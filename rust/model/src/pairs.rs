@@ -59,9 +59,9 @@ impl Maker {
             state_table: PAGE,
             read_write: random.pick(&[0, PAGE, PAGE]),
             output: if peers == 64 { 0 } else { random.pick(&[0, PAGE, PAGE]) },
+            base: 1 << 32,
             ..good_settings(random)
         };
-        let settings = Settings { base: 1 << 32, ..settings };
         let of = random.below(peers);
         let mut others: Vec<u64> = (0..4).map(|_| random.below(peers)).filter(|id| *id != of).collect();
         others.push((of + 1) % peers);
