@@ -122,6 +122,7 @@ pub fn may_store(section: Section, id: u64) -> bool {
         Section::StateTable => false,
         Section::ReadWrite => true,
         Section::Output(owner) => u64::from(owner.0) == id,
+        _ => unreachable!("the rules have no other section"),
     }
 }
 

@@ -268,6 +268,7 @@ fn section_reply(outcome: Result<Section, u32>, id: u64) -> SectionReply {
         Ok(section @ Section::StateTable) => (1, 0, rules::may_store(section, id)),
         Ok(section @ Section::ReadWrite) => (2, 0, rules::may_store(section, id)),
         Ok(section @ Section::Output(owner)) => (3, owner.0.into(), rules::may_store(section, id)),
+        Ok(_) => unreachable!("the rules have no other section"),
     };
     SectionReply { reply: reply(Ok(0)), kind, owner, store: store.into() }
 }

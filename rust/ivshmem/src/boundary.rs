@@ -1,14 +1,17 @@
-//! The C boundary: the types of `ivshmem.h`, its functions, and a safe form of each over slices.
+//! The C boundary: the types of `ivshmem.h`, its functions, and a form of each over slices.
 //!
 //! A slice's pointer is never null, is aligned and points to as many elements as its length says, also when it is empty; and
-//! Rust's borrows keep the parts lent to one call from overlapping. That is all the library asks for, so every function here
-//! is safe for hubs, regions, tables and buffers of any length and content.
+//! Rust's borrows keep the parts lent to one call from overlapping. That is all the library asks for, so every function over
+//! slices is safe for hubs, regions, tables and buffers of any length and content. Those that are lent the region have a second
+//! form over a raw pointer, for a region that guests change at the same time.
 
 use core::mem::{align_of, offset_of, size_of};
 
-use crate::{MAX_HUB_WORDS, PeerId, Settings, Vector, hub_words};
+use crate::{INTERFACE, MAX_HUB_WORDS, PeerId, Settings, Vector, hub_words};
 
-/// An answer: 0 or the refusal's number, and the value read (0 where nothing is read, and for a refusal).
+/// An answer: 0 or the refusal's number, and the value read (0 where nothing is read, and for a refusal). The 0 of a refused
+/// read is not for a guest, which must see all ones.
+#[must_use]
 #[repr(C)]
 #[derive(Clone, Copy, Debug, Default, PartialEq, Eq, Hash)]
 pub struct Reply {
@@ -34,6 +37,7 @@ pub struct Delivery {
 }
 
 /// An answer, and the number of records written to the delivery table. No guest may learn the count.
+#[must_use]
 #[repr(C)]
 #[derive(Clone, Copy, Debug, Default, PartialEq, Eq, Hash)]
 pub struct Counted {
@@ -44,6 +48,7 @@ pub struct Counted {
 }
 
 /// The answer to the section question.
+#[must_use]
 #[repr(C)]
 #[derive(Clone, Copy, Debug, Default, PartialEq, Eq, Hash)]
 pub struct SectionReply {
@@ -58,6 +63,7 @@ pub struct SectionReply {
 }
 
 const _: () = {
+    assert!(INTERFACE == 2, "the number in the name of the guard below");
     assert!(hub_words(4, 4) == 106 && MAX_HUB_WORDS == 4618);
     assert!(size_of::<usize>() == 8, "the library is built for 64-bit machines");
     assert!(size_of::<PeerId>() == 2 && size_of::<Vector>() == 2);
@@ -119,11 +125,25 @@ unsafe extern "C" {
 /// Refused with 1; then with 10 where `hub` has not just the words that the settings ask for
 /// ([`hub_words`](crate::hub_words)); then with 2. Each of these leaves all words of `hub` zero, and the region as it was.
 pub fn set_up(hub: &mut [u32], region: &mut [u8], settings: &Settings) -> Reply {
-    // SAFETY: both slices are lent for the whole call, exclusively.
-    unsafe { ivshmem_set_up_hub(hub.as_mut_ptr(), hub.len(), region.as_mut_ptr(), region.len(), *settings) }
+    // SAFETY: the region is a slice, lent for the whole call, exclusively.
+    unsafe { set_up_at(hub, region, settings) }
+}
+
+/// [`set_up`] of a region that others may reach. It writes every byte of the region where it is accepted, and none where it is
+/// refused.
+///
+/// # Safety
+/// The region's pointer is not null, also where its length is 0, and so many bytes behind it can be read and written by this
+/// program while the call runs. No Rust reference to any of them is in use then, those lent to this call among them. Guests, and
+/// other calls, may read and change the bytes at the same time: the call's answer does not rest on them, and what they hold
+/// afterwards is then not determined.
+pub unsafe fn set_up_at(hub: &mut [u32], region: *mut [u8], settings: &Settings) -> Reply {
+    // SAFETY: the hub is lent for the whole call, exclusively; the caller answers for the region.
+    unsafe { ivshmem_set_up_hub(hub.as_mut_ptr(), hub.len(), region.cast(), region.len(), *settings) }
 }
 
 /// 1 where `hub` is a sound hub, that is where no call would refuse it with 10; else 0.
+#[must_use]
 pub fn is_sound(hub: &[u32]) -> u32 {
     // SAFETY: the slice is lent for the whole call and only read.
     unsafe { ivshmem_is_sound(hub.as_ptr(), hub.len()) }
@@ -143,17 +163,38 @@ pub fn connect(hub: &mut [u32], id: u64) -> Reply {
 
 /// The peer leaves; if its State was not 0, vector 0 is rung at every other peer. Refused with 10, 2, 11, 3 or 4.
 pub fn disconnect(hub: &mut [u32], region: &mut [u8], table: &mut [Delivery], id: u64) -> Counted {
+    // SAFETY: the region is a slice, lent for the whole call, exclusively.
+    unsafe { disconnect_at(hub, region, table, id) }
+}
+
+/// [`disconnect`] with a region that others may reach. Of the region it touches the four bytes from 4 * id on, and writes them;
+/// where it is refused, none. Today's archive writes them by one store of 32 bits, which is an aligned one where the region is
+/// aligned to four bytes; that is how it is compiled, and no part of what is proved.
+///
+/// # Safety
+/// As for [`set_up_at`].
+pub unsafe fn disconnect_at(hub: &mut [u32], region: *mut [u8], table: &mut [Delivery], id: u64) -> Counted {
     let (words, bytes, records) = (hub.len(), region.len(), table.len());
-    // SAFETY: the three slices are lent for the whole call, exclusively; any bits are a `Delivery`.
-    unsafe { ivshmem_disconnect(hub.as_mut_ptr(), words, region.as_mut_ptr(), bytes, table.as_mut_ptr(), records, id) }
+    // SAFETY: hub and table are lent for the whole call, exclusively, and any bits are a `Delivery`; the caller answers for the
+    // region.
+    unsafe { ivshmem_disconnect(hub.as_mut_ptr(), words, region.cast(), bytes, table.as_mut_ptr(), records, id) }
 }
 
 /// The peer's registers take their reset values; if its State was not 0, vector 0 is rung at every other peer. Refused with
 /// 10, 2, 11, 3 or 4.
 pub fn reset(hub: &mut [u32], region: &mut [u8], table: &mut [Delivery], id: u64) -> Counted {
-    let (words, bytes, records) = (hub.len(), region.len(), table.len());
     // SAFETY: as for `disconnect`.
-    unsafe { ivshmem_reset(hub.as_mut_ptr(), words, region.as_mut_ptr(), bytes, table.as_mut_ptr(), records, id) }
+    unsafe { reset_at(hub, region, table, id) }
+}
+
+/// [`reset`] with a region that others may reach. Of the region it touches what [`disconnect_at`] touches.
+///
+/// # Safety
+/// As for [`set_up_at`].
+pub unsafe fn reset_at(hub: &mut [u32], region: *mut [u8], table: &mut [Delivery], id: u64) -> Counted {
+    let (words, bytes, records) = (hub.len(), region.len(), table.len());
+    // SAFETY: as for `disconnect_at`.
+    unsafe { ivshmem_reset(hub.as_mut_ptr(), words, region.cast(), bytes, table.as_mut_ptr(), records, id) }
 }
 
 /// Reads configuration space. Refused with 10, 3, 4, 6, 7 or 8.
@@ -185,11 +226,29 @@ pub fn register_write(
     value: u32,
 ) -> Counted {
     // SAFETY: as for `disconnect`.
+    unsafe { register_write_at(hub, region, table, id, offset, width, value) }
+}
+
+/// [`register_write`] with a region that others may reach. Of the region it touches what [`disconnect_at`] touches where it
+/// stores State, and nothing else.
+///
+/// # Safety
+/// As for [`set_up_at`].
+pub unsafe fn register_write_at(
+    hub: &mut [u32],
+    region: *mut [u8],
+    table: &mut [Delivery],
+    id: u64,
+    offset: u64,
+    width: u64,
+    value: u32,
+) -> Counted {
+    // SAFETY: as for `disconnect_at`.
     unsafe {
         ivshmem_register_write(
             hub.as_mut_ptr(),
             hub.len(),
-            region.as_mut_ptr(),
+            region.cast(),
             region.len(),
             table.as_mut_ptr(),
             table.len(),
@@ -221,14 +280,35 @@ pub fn section_question(hub: &[u32], id: u64, offset: u64, length: u64) -> Secti
 
 /// Fills `buffer` with shared bytes. Refused with 10, 2, 3, 4, 6 or 8.
 pub fn load(hub: &[u32], region: &[u8], id: u64, offset: u64, buffer: &mut [u8]) -> Reply {
+    // SAFETY: the region is a slice, lent for the whole call, and only read.
+    unsafe { load_at(hub, region, id, offset, buffer) }
+}
+
+/// [`load`] from a region that others may reach. Of the region it touches the bytes of its range, and only reads them; where it
+/// is refused, none.
+///
+/// # Safety
+/// As for [`set_up_at`], but that the bytes need not be writable, and that shared references to bytes that nobody changes may be
+/// in use. What it gives of bytes that are changed at the same time is not determined; its number and all other bytes are.
+pub unsafe fn load_at(hub: &[u32], region: *const [u8], id: u64, offset: u64, buffer: &mut [u8]) -> Reply {
     let (words, bytes, length) = (hub.len(), region.len(), buffer.len());
-    // SAFETY: hub and region are lent for the whole call and only read; the buffer is lent exclusively.
-    unsafe { ivshmem_load(hub.as_ptr(), words, region.as_ptr(), bytes, id, offset, buffer.as_mut_ptr(), length) }
+    // SAFETY: the hub is lent for the whole call and only read, the buffer exclusively; the caller answers for the region.
+    unsafe { ivshmem_load(hub.as_ptr(), words, region.cast(), bytes, id, offset, buffer.as_mut_ptr(), length) }
 }
 
 /// Stores bytes to the read/write section or to the peer's own output section. Refused with 10, 2, 3, 4, 6, 8 or 9.
 pub fn store(hub: &[u32], region: &mut [u8], id: u64, offset: u64, bytes: &[u8]) -> Reply {
+    // SAFETY: the region is a slice, lent for the whole call, exclusively.
+    unsafe { store_at(hub, region, id, offset, bytes) }
+}
+
+/// [`store`] to a region that others may reach. Of the region it touches the bytes of its range, and writes them; where it is
+/// refused, none.
+///
+/// # Safety
+/// As for [`set_up_at`].
+pub unsafe fn store_at(hub: &[u32], region: *mut [u8], id: u64, offset: u64, bytes: &[u8]) -> Reply {
     let (words, length) = (hub.len(), bytes.len());
-    // SAFETY: hub and bytes are lent for the whole call and only read; the region is lent exclusively.
-    unsafe { ivshmem_store(hub.as_ptr(), words, region.as_mut_ptr(), region.len(), id, offset, bytes.as_ptr(), length) }
+    // SAFETY: hub and bytes are lent for the whole call and only read; the caller answers for the region.
+    unsafe { ivshmem_store(hub.as_ptr(), words, region.cast(), region.len(), id, offset, bytes.as_ptr(), length) }
 }

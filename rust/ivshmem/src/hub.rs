@@ -3,7 +3,7 @@
 use core::fmt;
 
 use crate::raw::{self, Counted, Delivery, Reply};
-use crate::{PeerId, Placement, Refusal, Section, Settings};
+use crate::{PeerId, Placement, Refusal, Settings};
 
 /// A hub: words that its user owns and lends to it, as many as the set-up asks for, and nothing else.
 ///
@@ -30,7 +30,15 @@ use crate::{PeerId, Placement, Refusal, Section, Settings};
 /// disconnect, and a register write that stores State write the four bytes of the peer's State Table entry; a load reads its
 /// range, and a store writes it. No call touches another byte of it.
 ///
-/// Every method answers every argument: with a value, or with the [`Refusal`] that applies.
+/// The methods that take the region as a slice are for one that no guest has mapped; those with `_at` in their name take a
+/// [`Region`](crate::Region), which guests may change at any time.
+///
+/// Every method answers every argument: with a value, or with the [`Refusal`] that applies. A guest whose read is refused must
+/// see all ones, and one whose write is refused nothing: [`trap`](crate::trap) does so.
+///
+/// Methods that take `&self` may run at the same time; one that takes `&mut self` runs while no other on the same hub does.
+/// Methods on different hubs may run at once. A hub is `Send` and `Sync`, as its words are, so that Rust holds a host to this: it
+/// may keep one in an `RwLock`, with the lock shared for reads and loads.
 #[derive(PartialEq, Eq, Hash)]
 pub struct Hub<'a> {
     words: &'a mut [u32],
@@ -61,6 +69,16 @@ impl<'a> Hub<'a> {
         self.words
     }
 
+    pub(crate) const fn words_mut(&mut self) -> &mut [u32] {
+        self.words
+    }
+
+    /// The same hub for a shorter time, for what takes one by value.
+    #[must_use]
+    pub const fn reborrow(&mut self) -> Hub<'_> {
+        Hub { words: self.words }
+    }
+
     /// Whether the words are a sound hub, that is whether no call refuses them with [`Refusal::UnsoundHub`].
     #[must_use]
     pub fn is_sound(&self) -> bool {
@@ -89,6 +107,7 @@ impl<'a> Hub<'a> {
     /// # Errors
     /// [`Refusal::UnsoundHub`], [`Refusal::BadRegion`], [`Refusal::ShortTable`], [`Refusal::NoSuchPeer`] or
     /// [`Refusal::NotConnected`].
+    #[must_use = "the deliveries are interrupts to inject"]
     pub fn disconnect<'t>(
         &mut self,
         region: &mut [u8],
@@ -104,6 +123,7 @@ impl<'a> Hub<'a> {
     ///
     /// # Errors
     /// As for [`disconnect`](Hub::disconnect).
+    #[must_use = "the deliveries are interrupts to inject"]
     pub fn reset<'t>(
         &mut self,
         region: &mut [u8],
@@ -146,6 +166,7 @@ impl<'a> Hub<'a> {
     ///
     /// # Errors
     /// As for [`configuration_read`](Hub::configuration_read), and [`Refusal::BadRegion`] or [`Refusal::ShortTable`].
+    #[must_use = "the deliveries are interrupts to inject"]
     pub fn register_write<'t>(
         &mut self,
         region: &mut [u8],
@@ -181,15 +202,7 @@ impl<'a> Hub<'a> {
     /// [`Refusal::UnsoundHub`], [`Refusal::NoSuchPeer`], [`Refusal::NotConnected`], [`Refusal::BadWidth`] for a length of 0,
     /// or [`Refusal::OutOfRange`].
     pub fn section_question(&self, peer: PeerId, offset: u64, length: u64) -> Result<Placement, Refusal> {
-        let answer = raw::section_question(self.words, id(peer), offset, length);
-        answer.reply.result()?;
-        // An accepted question always names a section, so the last arm is the output kind alone; its owner is a peer's id.
-        let section = match answer.kind {
-            1 => Section::StateTable,
-            2 => Section::ReadWrite,
-            _ => Section::Output(PeerId(answer.owner as u16)),
-        };
-        Ok(Placement { section, may_store: answer.store == 1 })
+        raw::section_question(self.words, id(peer), offset, length).result()
     }
 
     /// Fills the buffer with the shared bytes at `offset`.
@@ -216,16 +229,16 @@ impl fmt::Debug for Hub<'_> {
     }
 }
 
-fn id(peer: PeerId) -> u64 {
+pub(crate) fn id(peer: PeerId) -> u64 {
     u64::from(peer.0)
 }
 
-fn done(reply: Reply) -> Result<(), Refusal> {
+pub(crate) fn done(reply: Reply) -> Result<(), Refusal> {
     reply.result().map(|_| ())
 }
 
 // The library never counts more records than it was lent; `get` only spares a panic that can't happen.
-fn filled(counted: Counted, table: &[Delivery]) -> Result<&[Delivery], Refusal> {
+pub(crate) fn filled(counted: Counted, table: &[Delivery]) -> Result<&[Delivery], Refusal> {
     counted.reply.result()?;
     Ok(table.get(..counted.count).unwrap_or(table))
 }

@@ -1,15 +1,17 @@
 //! Numbers with a meaning of their own, the set-up numbers and the sections.
 
 use core::fmt;
+use core::num::TryFromIntError;
 
-use crate::{MAX_PEERS, MAX_VECTORS, hub_words};
+use crate::raw::SectionReply;
+use crate::{MAX_PEERS, MAX_VECTORS, Refusal, hub_words};
 
-/// A peer's id, from 0.
+/// A peer's id, from 0. A wider number becomes one by `try_from`, which refuses what 16 bits do not hold.
 #[repr(transparent)]
 #[derive(Clone, Copy, Debug, Default, PartialEq, Eq, PartialOrd, Ord, Hash)]
 pub struct PeerId(pub u16);
 
-/// An MSI-X vector's number, from 0.
+/// An MSI-X vector's number, from 0. A wider number becomes one by `try_from`, which refuses what 16 bits do not hold.
 #[repr(transparent)]
 #[derive(Clone, Copy, Debug, Default, PartialEq, Eq, PartialOrd, Ord, Hash)]
 pub struct Vector(pub u16);
@@ -25,6 +27,21 @@ impl fmt::Display for Vector {
         self.0.fmt(f)
     }
 }
+
+macro_rules! from_wider_numbers {
+    ($($name:ident from $wide:ty),*) => {$(
+        impl TryFrom<$wide> for $name {
+            type Error = TryFromIntError;
+
+            fn try_from(number: $wide) -> Result<$name, TryFromIntError> {
+                number.try_into().map($name)
+            }
+        }
+    )*};
+}
+
+from_wider_numbers!(PeerId from u32, PeerId from u64, PeerId from usize);
+from_wider_numbers!(Vector from u32, Vector from u64, Vector from usize);
 
 /// The numbers that a hub is set up with. Sizes are in bytes. It is `ivshmem_settings` of the C header.
 #[repr(C)]
@@ -90,7 +107,10 @@ impl Settings {
 }
 
 /// A section of the shared region.
+///
+/// A later library may have kinds that this crate does not know, so a `match` needs an arm for all others.
 #[derive(Clone, Copy, Debug, PartialEq, Eq, Hash)]
+#[non_exhaustive]
 pub enum Section {
     /// The State Table: no peer stores to it.
     StateTable,
@@ -98,6 +118,13 @@ pub enum Section {
     ReadWrite,
     /// The output section of one peer, which alone stores to it.
     Output(PeerId),
+    /// A kind that this crate does not know, or an owner that is no peer's id.
+    Unknown {
+        /// The kind's number.
+        kind: u32,
+        /// The owner, as the library has answered it.
+        owner: u32,
+    },
 }
 
 /// The section that a range lies in, and whether the asking peer may store to it.
@@ -107,4 +134,22 @@ pub struct Placement {
     pub section: Section,
     /// Whether the asking peer may store there.
     pub may_store: bool,
+}
+
+impl SectionReply {
+    /// The section and the right to store, or the refusal. A kind that has no name here is [`Section::Unknown`], and a right that
+    /// is not 1 is none.
+    ///
+    /// # Errors
+    /// The refusal whose number the reply holds.
+    pub fn result(self) -> Result<Placement, Refusal> {
+        self.reply.result()?;
+        let section = match (self.kind, PeerId::try_from(self.owner)) {
+            (1, _) => Section::StateTable,
+            (2, _) => Section::ReadWrite,
+            (3, Ok(owner)) => Section::Output(owner),
+            (kind, _) => Section::Unknown { kind, owner: self.owner },
+        };
+        Ok(Placement { section, may_store: self.store == 1 })
+    }
 }

@@ -2,10 +2,11 @@
 
 use std::error::Error;
 
-use ivshmem::raw::{self, Reply};
+use ivshmem::raw::{self, Reply, SectionReply};
+use ivshmem::trap::Trap;
 use ivshmem::{
     CONFIGURATION_BYTES, Delivery, Hub, MAX_HUB_WORDS, MAX_PEERS, MAX_VECTORS, MIN_BASE, MSIX_BYTES, PeerId, Placement,
-    REGISTER_BYTES, Refusal, Section, Settings, Vector, hub_words, msix, register,
+    REGISTER_BYTES, Refusal, Region, Section, Settings, Vector, hub_words, msix, register,
 };
 
 const ZERO: PeerId = PeerId(0);
@@ -74,15 +75,84 @@ fn numbers_of_refusals() {
         assert_eq!(error.to_string(), refusal.reason());
     }
     assert_eq!(Refusal::from_number(0), None);
-    assert_eq!(Refusal::from_number(12), None);
     assert_eq!(Reply { number: 0, value: 7 }.result(), Ok(7));
-    assert_eq!(Reply { number: 12, value: 7 }.result(), Err(Refusal::UnsoundHub));
 
     let mut reasons = Refusal::ALL.map(Refusal::reason).to_vec();
     reasons.sort_unstable();
     reasons.dedup();
     assert_eq!(reasons.len(), Refusal::ALL.len());
 }
+
+/// A number that this crate does not know is none that it knows, and is kept.
+#[test]
+fn unknown_numbers() {
+    for number in [12, 13, 255, 256, 0x0001_000a, u32::MAX] {
+        let refusal = Reply { number, value: 7 }.result().unwrap_err();
+        assert_eq!(refusal, Refusal::Unknown(number));
+        assert_eq!((refusal.number(), refusal.reason()), (number, "an unknown number"));
+        assert_eq!(Refusal::from_number(number), Some(refusal));
+        assert!(!Refusal::ALL.contains(&refusal));
+        assert_eq!(refusal.to_string(), format!("an unknown number, {number}"));
+    }
+}
+
+/// Kinds and owners that this crate does not know are no section that it knows.
+#[test]
+fn unknown_sections() {
+    let answer = |kind, owner, store| SectionReply { reply: Reply::default(), kind, owner, store };
+    let placed = |kind, owner, store| answer(kind, owner, store).result().unwrap();
+    for (kind, owner, section) in [
+        (1, 0, Section::StateTable),
+        (2, 0, Section::ReadWrite),
+        (3, 0, Section::Output(ZERO)),
+        (3, 0xffff, Section::Output(PeerId(0xffff))),
+    ] {
+        assert_eq!(placed(kind, owner, 1), Placement { section, may_store: true });
+        assert_eq!(placed(kind, owner, 0), Placement { section, may_store: false });
+        assert_eq!(placed(kind, owner, 2), Placement { section, may_store: false });
+    }
+    for (kind, owner) in [(0, 0), (4, 1), (u32::MAX, 0), (3, 0x1_0000), (3, 0x1_0001)] {
+        assert_eq!(placed(kind, owner, 0), Placement { section: Section::Unknown { kind, owner }, may_store: false });
+    }
+    let refused = SectionReply { reply: refused(12), ..answer(3, 1, 1) };
+    assert_eq!(refused.result().unwrap_err().number(), 12);
+}
+
+/// No id and no vector is cut to 16 bits: a number that is too large is refused.
+#[test]
+fn wider_numbers() {
+    fn both<T: Copy + TryInto<PeerId> + TryInto<Vector>>(number: T) -> (Option<PeerId>, Option<Vector>) {
+        (number.try_into().ok(), number.try_into().ok())
+    }
+    for number in [0, 1, 63, 0xffff] {
+        let whole = (Some(PeerId(number)), Some(Vector(number)));
+        assert_eq!([both(u32::from(number)), both(u64::from(number)), both(usize::from(number))], [whole; 3]);
+    }
+    for number in [0x1_0000, 0x1_0001, u32::MAX] {
+        assert_eq!([both(number), both(u64::from(number)), both(number as usize)], [(None, None); 3]);
+    }
+    for number in [1 << 32, u64::MAX] {
+        assert_eq!([both(number), both(number as usize)], [(None, None); 2]);
+    }
+}
+
+/// The Doorbell has room for all of both numbers.
+#[test]
+fn doorbells() {
+    assert_eq!(register::doorbell(PeerId(3), Vector(1)), 0x0003_0001);
+    assert_eq!(register::doorbell(PeerId(63), Vector(15)), 0x003f_000f);
+    assert_eq!(register::doorbell(PeerId(0xffff), Vector(0)), 0xffff_0000);
+    assert_eq!(register::doorbell(PeerId(0), Vector(0xffff)), 0x0000_ffff);
+    assert_eq!(register::doorbell(PeerId(0x8001), Vector(0x4002)), 0x8001_4002);
+}
+
+/// Hubs and regions go to other threads, and are shared between them: what changes them takes them exclusively.
+const _: () = {
+    const fn sent_and_shared<T: Send + Sync>() {}
+    sent_and_shared::<Hub<'_>>();
+    sent_and_shared::<Region<'_>>();
+    sent_and_shared::<Trap<'_>>();
+};
 
 #[test]
 fn totals() {

@@ -21,7 +21,8 @@ impl Answer {
     /// Puts the answer's bytes at the end of those written so far.
     pub fn encode(&self, written: &mut Vec<u8>) {
         match self {
-            Answer::Refused(refusal) => written.extend([0x80, refusal.number() as u8]),
+            // A number that a byte has no room for is FFh, which is no refusal's.
+            Answer::Refused(refusal) => written.extend([0x80, refusal.number().try_into().unwrap_or(u8::MAX)]),
             Answer::Done(deliveries) => {
                 written.push(0x81);
                 deliveries.iter().for_each(|delivery| encode_delivery(delivery, written));
@@ -39,7 +40,7 @@ impl Answer {
     pub fn decode(written: &[u8]) -> Option<(Answer, &[u8])> {
         let mut fields = Fields(written);
         let answer = match fields.one()? {
-            0x80 => Answer::Refused(Refusal::from_number(fields.one()?.into())?),
+            0x80 => Answer::Refused(decode_refusal(fields.one()?)?),
             0x81 => {
                 let mut deliveries = Vec::new();
                 while fields.0.first() == Some(&0x83) {
@@ -78,6 +79,11 @@ fn encode_delivery(delivery: &Delivery, written: &mut Vec<u8>) {
     written.extend(delivery.vector.0.to_le_bytes());
     written.extend(delivery.address.to_le_bytes());
     written.extend(delivery.data.to_le_bytes());
+}
+
+// A player has the refusals of this crate and no others.
+fn decode_refusal(number: u8) -> Option<Refusal> {
+    Refusal::ALL.into_iter().find(|refusal| refusal.number() == number.into())
 }
 
 fn decode_delivery(fields: &mut Fields<'_>) -> Option<Delivery> {

@@ -231,7 +231,7 @@ impl<'a, W: Write> Recorder<'a, W> {
         answer
     }
 
-    /// As [`Hub::section`]. A log has no record for it, so it is noted.
+    /// As [`Hub::section_question`]. A log has no record for it, so it is noted.
     ///
     /// # Errors
     /// The hub's refusal.

@@ -194,7 +194,7 @@ impl fmt::Display for Record {
 }
 
 pub(crate) fn refused_text(refusal: Refusal) -> String {
-    format!("refused, {} ({refusal})", refusal.number())
+    format!("refused, {} ({})", refusal.number(), refusal.reason())
 }
 
 pub(crate) fn placement_text(placement: &Placement) -> String {
@@ -202,6 +202,7 @@ pub(crate) fn placement_text(placement: &Placement) -> String {
         Section::StateTable => "the State Table".into(),
         Section::ReadWrite => "the R/W section".into(),
         Section::Output(owner) => format!("the output section of peer {owner}"),
+        other => format!("a section that has no name here, {other:?}"),
     };
     format!("{section}, {}", if placement.may_store { "may store" } else { "may not store" })
 }

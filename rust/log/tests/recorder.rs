@@ -123,6 +123,7 @@ fn placed(placement: Placement) -> Whole {
         Section::StateTable => (1, 0),
         Section::ReadWrite => (2, 0),
         Section::Output(owner) => (3, owner.0.into()),
+        other => panic!("no section of the rules: {other:?}"),
     };
     Whole { kind, owner, store: placement.may_store.into(), ..Whole::default() }
 }

@@ -652,5 +652,6 @@ fn may_store(id: u64, section: Section) -> bool {
         Section::StateTable => false,
         Section::ReadWrite => true,
         Section::Output(owner) => u64::from(owner.0) == id,
+        _ => unreachable!("the rules have no other section"),
     }
 }

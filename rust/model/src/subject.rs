@@ -332,5 +332,6 @@ fn section_numbers(section: Section) -> (u32, u32) {
         Section::StateTable => (1, 0),
         Section::ReadWrite => (2, 0),
         Section::Output(owner) => (3, owner.0.into()),
+        _ => unreachable!("the rules have no other section"),
     }
 }
