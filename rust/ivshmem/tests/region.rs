@@ -2,6 +2,7 @@
 
 use std::sync::atomic::{AtomicBool, AtomicU8, AtomicU32, Ordering};
 use std::thread;
+use std::time::{Duration, Instant};
 
 use ivshmem::raw::{self, Counted, Reply};
 use ivshmem::{Delivery, Hub, PeerId, Refusal, Region, Settings, configuration, hub_words, msix, register};
@@ -188,45 +189,49 @@ fn a_guest_runs_meanwhile() {
     });
     println!("a guest saw State change {} times", changes.load(Ordering::Relaxed));
     assert_eq!(torn, None);
-    assert!(changes.load(Ordering::Relaxed) >= CHANGES);
+    assert!(changes.load(Ordering::Relaxed) > 0);
 }
 
-/// How often the guest is to see State change.
-const CHANGES: u32 = 2000;
+/// How often the guest is to see State change, and how long it may take: on a busy machine it sees fewer.
+const CHANGES: u32 = 200_000;
+const LONGEST: Duration = Duration::from_secs(2);
 
 /// Changes a byte and looks at the State Table entry, for as long as there are whole values in it; a torn one is answered.
 fn guest(entry: &AtomicU32, byte: &AtomicU8, changes: &AtomicU32, running: &AtomicBool) -> Option<u32> {
     let mut last = 0;
-    // An end also where the other side has failed.
-    for _ in 0..1 << 30 {
-        if !running.load(Ordering::Relaxed) {
-            break;
-        }
+    // Not much longer than the other side, where that has failed.
+    let start = Instant::now();
+    while running.load(Ordering::Relaxed) && start.elapsed() < 2 * LONGEST {
         byte.fetch_add(1, Ordering::Relaxed);
-        let state = entry.load(Ordering::Relaxed);
-        if state != 0 && state != u32::MAX {
-            running.store(false, Ordering::Relaxed);
-            return Some(state);
+        for state in (0..100).map(|_| entry.load(Ordering::Relaxed)) {
+            if state != 0 && state != u32::MAX {
+                running.store(false, Ordering::Relaxed);
+                return Some(state);
+            }
+            if state != last {
+                changes.fetch_add(1, Ordering::Relaxed);
+            }
+            last = state;
         }
-        changes.fetch_add(u32::from(state != last), Ordering::Relaxed);
-        last = state;
     }
     None
 }
 
-/// Stores State and shared bytes until the guest has seen enough, or nothing of it in many rounds.
+/// Stores State and shared bytes until the guest has seen enough, or the time is over.
 fn store_states(region: &mut Region<'_>, changes: &AtomicU32, running: &AtomicBool) {
     let (mut words, mut table, mut buffer) = ([0; WORDS], table(), [0; 8]);
     let mut hub = Hub::set_up_at(&mut words, &SETTINGS, region).unwrap();
     hub.connect(TWO).unwrap();
     hub.configuration_write(TWO, configuration::COMMAND, 2, configuration::COMMAND_MEMORY).unwrap();
-    for round in 0..100_000_000_u32 {
+    let start = Instant::now();
+    for round in 0..u32::MAX {
         let state = if round % 2 == 0 { u32::MAX } else { 0 };
         assert_eq!(hub.register_write_at(region, &mut table, TWO, register::STATE, 4, state), Ok(&[][..]));
         assert_eq!(hub.store_at(region, TWO, 4097, &round.to_le_bytes()), Ok(()));
         assert_eq!(hub.load_at(region, TWO, 4096, &mut buffer), Ok(()));
         assert_eq!(buffer[1..5], round.to_le_bytes());
-        if changes.load(Ordering::Relaxed) >= CHANGES || !running.load(Ordering::Relaxed) {
+        let enough = changes.load(Ordering::Relaxed) >= CHANGES || start.elapsed() >= LONGEST;
+        if enough || !running.load(Ordering::Relaxed) {
             return;
         }
     }
