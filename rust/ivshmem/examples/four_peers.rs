@@ -1,6 +1,7 @@
-//! Four guests on one hub: a doorbell, a state change, a one-shot interrupt and a guest that leaves.
+//! Four guests on one hub: a doorbell, a state change, a one-shot interrupt and a guest that leaves. No guest has the region
+//! mapped here, so it may be lent as a slice.
 
-use ivshmem::{Delivery, Hub, PeerId, Refusal, Settings, Vector, hub_words, msix, register};
+use ivshmem::{Delivery, Hub, PeerId, Refusal, Settings, Vector, configuration, hub_words, msix, register};
 
 const PEERS: u16 = 4;
 const VECTORS: u16 = 2;
@@ -31,10 +32,11 @@ impl<'a> Host<'a> {
     /// What a guest's driver does when it finds the device.
     fn boot(&mut self, peer: PeerId) -> Result<(), Refusal> {
         self.hub.connect(peer)?;
-        self.hub.configuration_write(peer, 0x04, 2, 0x0006)?;
-        self.hub.configuration_write(peer, 0x62, 2, 0x8000)?;
+        let on = configuration::COMMAND_MEMORY | configuration::COMMAND_BUS_MASTER;
+        self.hub.configuration_write(peer, configuration::COMMAND, 2, on)?;
+        self.hub.configuration_write(peer, configuration::MESSAGE_CONTROL, 2, configuration::MESSAGE_ENABLE)?;
         for vector in 0..VECTORS {
-            let entry = 16 * u64::from(vector);
+            let entry = msix::ENTRY_BYTES * u64::from(vector);
             self.hub.msix_write(peer, entry + msix::ADDRESS_LOW, 4, 0xfee0_0000)?;
             self.hub.msix_write(peer, entry + msix::DATA, 4, 0x40 + u32::from(peer.0))?;
             self.hub.msix_write(peer, entry + msix::CONTROL, 4, 0)?;
@@ -74,7 +76,8 @@ fn main() -> Result<(), Refusal> {
     host.write("sets it to 5 again, which is no change", PeerId(1), register::STATE, 5)?;
 
     // Peer 3 asks for one-shot interrupts: the next delivery switches its Interrupt Control off.
-    host.hub.configuration_write(PeerId(3), 0x43, 1, 1)?;
+    let one_shot = configuration::PRIVILEGED_ONE_SHOT;
+    host.hub.configuration_write(PeerId(3), configuration::PRIVILEGED_CONTROL, 1, one_shot)?;
     host.write("rings vector 1 of peer 3, now one-shot", PeerId(0), register::DOORBELL, ring)?;
     host.write("rings it again, before peer 3 is ready", PeerId(0), register::DOORBELL, ring)?;
 
