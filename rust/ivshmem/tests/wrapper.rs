@@ -3,7 +3,7 @@
 use std::error::Error;
 
 use ivshmem::raw::{self, Reply, SectionReply};
-use ivshmem::trap::Trap;
+use ivshmem::trap::{Space, Trap};
 use ivshmem::{
     CONFIGURATION_BYTES, Delivery, Hub, MAX_HUB_WORDS, MAX_PEERS, MAX_VECTORS, MIN_BASE, MSIX_BYTES, PeerId, Placement,
     REGISTER_BYTES, Refusal, Region, Section, Settings, Vector, hub_words, msix, register,
@@ -144,6 +144,30 @@ fn doorbells() {
     assert_eq!(register::doorbell(PeerId(0xffff), Vector(0)), 0xffff_0000);
     assert_eq!(register::doorbell(PeerId(0), Vector(0xffff)), 0x0000_ffff);
     assert_eq!(register::doorbell(PeerId(0x8001), Vector(0x4002)), 0x8001_4002);
+}
+
+/// The compiler warns of an answer that nobody looks at: were one of these warnings not given, it would be an error here.
+#[test]
+#[deny(unfulfilled_lint_expectations)]
+fn dropped_answers() {
+    let (mut words, mut region, mut table) = (ANY, [0; 4096], [Delivery::default(); 3]);
+    #[expect(unused_must_use)]
+    raw::set_up(&mut words, &mut region, &SETTINGS);
+    #[expect(unused_must_use)]
+    raw::is_sound(&words);
+    #[expect(unused_must_use)]
+    raw::connect(&mut words, 0);
+    #[expect(unused_must_use)]
+    raw::reset(&mut words, &mut region, &mut table, 0);
+    #[expect(unused_must_use)]
+    raw::section_question(&words, 0, 0, 1);
+    let mut hub = Hub::from_words(&mut words);
+    #[expect(unused_must_use)]
+    hub.reset(&mut region, &mut table, ZERO);
+    #[expect(unused_must_use)]
+    hub.is_sound();
+    #[expect(unused_must_use)]
+    Trap::new(hub, Region::from_slice(&mut region), &mut table, ZERO, Space::Registers).write(0, &[]);
 }
 
 /// Hubs and regions go to other threads, and are shared between them: what changes them takes them exclusively.

@@ -3,7 +3,7 @@
 use std::fmt;
 use std::io::Write;
 
-use ivshmem::{Delivery, Hub, PeerId, Placement, Refusal, Settings};
+use ivshmem::{Delivery, Hub, PeerId, Placement, Refusal, Region, Settings};
 
 use crate::log::{Log, Why};
 use crate::player::LONGEST_REGION;
@@ -87,10 +87,23 @@ impl<'a, W: Write> Recorder<'a, W> {
         region: &mut [u8],
         log: &'a mut Log<W>,
     ) -> Result<Recorder<'a, W>, SetUpError> {
+        Recorder::set_up_at(words, settings, &mut Region::from_slice(region), log)
+    }
+
+    /// As [`Hub::set_up_at`]; else as [`set_up`](Recorder::set_up).
+    ///
+    /// # Errors
+    /// [`SetUpError::TooLarge`], or the hub's refusal.
+    pub fn set_up_at(
+        words: &'a mut [u32],
+        settings: &Settings,
+        region: &mut Region<'_>,
+        log: &'a mut Log<W>,
+    ) -> Result<Recorder<'a, W>, SetUpError> {
         if settings.total().is_some_and(|total| total > LONGEST_REGION) {
             return Err(SetUpError::TooLarge);
         }
-        let hub = Hub::set_up(words, settings, region);
+        let hub = Hub::set_up_at(words, settings, region);
         log.set_up(settings, hub.as_ref().map(|_| ()).map_err(|refusal| *refusal));
         Ok(Recorder { hub: hub.map_err(SetUpError::Refused)?, log })
     }
@@ -105,6 +118,20 @@ impl<'a, W: Write> Recorder<'a, W> {
     #[must_use]
     pub const fn words(&self) -> &[u32] {
         self.hub.words()
+    }
+
+    /// As [`Hub::is_sound`]. A question of the host changes nothing and is no part of a history, so it is not noted.
+    #[must_use]
+    pub fn is_sound(&self) -> bool {
+        self.hub.is_sound()
+    }
+
+    /// As [`Hub::is_connected`]. It is not noted either.
+    ///
+    /// # Errors
+    /// The hub's refusal.
+    pub fn is_connected(&self, peer: PeerId) -> Result<bool, Refusal> {
+        self.hub.is_connected(peer)
     }
 
     /// The log so far.
@@ -128,13 +155,28 @@ impl<'a, W: Write> Recorder<'a, W> {
     ///
     /// # Errors
     /// The hub's refusal.
+    #[must_use = "the deliveries are interrupts to inject"]
     pub fn disconnect<'t>(
         &mut self,
         region: &mut [u8],
         table: &'t mut [Delivery],
         peer: PeerId,
     ) -> Result<&'t [Delivery], Refusal> {
-        let answer = self.hub.disconnect(region, table, peer);
+        self.disconnect_at(&mut Region::from_slice(region), table, peer)
+    }
+
+    /// As [`Hub::disconnect_at`].
+    ///
+    /// # Errors
+    /// The hub's refusal.
+    #[must_use = "the deliveries are interrupts to inject"]
+    pub fn disconnect_at<'t>(
+        &mut self,
+        region: &mut Region<'_>,
+        table: &'t mut [Delivery],
+        peer: PeerId,
+    ) -> Result<&'t [Delivery], Refusal> {
+        let answer = self.hub.disconnect_at(region, table, peer);
         let record = Record::Disconnect { peer };
         self.log.call(Some([record]), || record.to_string(), answer);
         answer
@@ -144,13 +186,28 @@ impl<'a, W: Write> Recorder<'a, W> {
     ///
     /// # Errors
     /// The hub's refusal.
+    #[must_use = "the deliveries are interrupts to inject"]
     pub fn reset<'t>(
         &mut self,
         region: &mut [u8],
         table: &'t mut [Delivery],
         peer: PeerId,
     ) -> Result<&'t [Delivery], Refusal> {
-        let answer = self.hub.reset(region, table, peer);
+        self.reset_at(&mut Region::from_slice(region), table, peer)
+    }
+
+    /// As [`Hub::reset_at`].
+    ///
+    /// # Errors
+    /// The hub's refusal.
+    #[must_use = "the deliveries are interrupts to inject"]
+    pub fn reset_at<'t>(
+        &mut self,
+        region: &mut Region<'_>,
+        table: &'t mut [Delivery],
+        peer: PeerId,
+    ) -> Result<&'t [Delivery], Refusal> {
+        let answer = self.hub.reset_at(region, table, peer);
         let record = Record::Reset { peer };
         self.log.call(Some([record]), || record.to_string(), answer);
         answer
@@ -194,6 +251,7 @@ impl<'a, W: Write> Recorder<'a, W> {
     ///
     /// # Errors
     /// The hub's refusal.
+    #[must_use = "the deliveries are interrupts to inject"]
     pub fn register_write<'t>(
         &mut self,
         region: &mut [u8],
@@ -203,7 +261,24 @@ impl<'a, W: Write> Recorder<'a, W> {
         width: u64,
         value: u32,
     ) -> Result<&'t [Delivery], Refusal> {
-        let answer = self.hub.register_write(region, table, peer, offset, width, value);
+        self.register_write_at(&mut Region::from_slice(region), table, peer, offset, width, value)
+    }
+
+    /// As [`Hub::register_write_at`].
+    ///
+    /// # Errors
+    /// The hub's refusal.
+    #[must_use = "the deliveries are interrupts to inject"]
+    pub fn register_write_at<'t>(
+        &mut self,
+        region: &mut Region<'_>,
+        table: &'t mut [Delivery],
+        peer: PeerId,
+        offset: u64,
+        width: u64,
+        value: u32,
+    ) -> Result<&'t [Delivery], Refusal> {
+        let answer = self.hub.register_write_at(region, table, peer, offset, width, value);
         let record = four_bytes(offset, width).map(|offset| [Record::RegisterWrite { peer, offset, value }]);
         self.log.call(record, || write_text(peer, Space::Register, offset, width, value), answer);
         answer
@@ -248,8 +323,27 @@ impl<'a, W: Write> Recorder<'a, W> {
     /// The hub's refusal.
     pub fn load(&mut self, region: &[u8], peer: PeerId, offset: u64, buffer: &mut [u8]) -> Result<(), Refusal> {
         let answer = self.hub.load(region, peer, offset, buffer);
+        self.loaded(peer, offset, buffer, answer)
+    }
+
+    /// As [`Hub::load_at`].
+    ///
+    /// # Errors
+    /// The hub's refusal.
+    pub fn load_at(
+        &mut self,
+        region: &Region<'_>,
+        peer: PeerId,
+        offset: u64,
+        buffer: &mut [u8],
+    ) -> Result<(), Refusal> {
+        let answer = self.hub.load_at(region, peer, offset, buffer);
+        self.loaded(peer, offset, buffer, answer)
+    }
+
+    fn loaded(&mut self, peer: PeerId, offset: u64, buffer: &[u8], answer: Result<(), Refusal>) -> Result<(), Refusal> {
         let records = range(offset, buffer.len(), answer)
-            .map(|offset| (0..).zip(&*buffer).map(move |(at, _)| Record::Load { peer, offset: offset + at }));
+            .map(|offset| (0..).zip(buffer).map(move |(at, _)| Record::Load { peer, offset: offset + at }));
         self.log.call(records, || load_text(peer, offset, buffer.len()), answer);
         answer
     }
@@ -259,7 +353,21 @@ impl<'a, W: Write> Recorder<'a, W> {
     /// # Errors
     /// The hub's refusal.
     pub fn store(&mut self, region: &mut [u8], peer: PeerId, offset: u64, bytes: &[u8]) -> Result<(), Refusal> {
-        let answer = self.hub.store(region, peer, offset, bytes);
+        self.store_at(&mut Region::from_slice(region), peer, offset, bytes)
+    }
+
+    /// As [`Hub::store_at`].
+    ///
+    /// # Errors
+    /// The hub's refusal.
+    pub fn store_at(
+        &mut self,
+        region: &mut Region<'_>,
+        peer: PeerId,
+        offset: u64,
+        bytes: &[u8],
+    ) -> Result<(), Refusal> {
+        let answer = self.hub.store_at(region, peer, offset, bytes);
         let records = range(offset, bytes.len(), answer)
             .map(|offset| (0..).zip(bytes).map(move |(at, &byte)| Record::Store { peer, offset: offset + at, byte }));
         self.log.call(records, || store_text(peer, offset, bytes), answer);

@@ -191,6 +191,11 @@ fn what_is_no_answer_has_a_place() {
     is_none(&[0x80], 0);
     is_none(&[0x81, 0x80, 0], 1);
     is_none(&[0x81, 0x80, 12], 1);
+    // A number that a byte does not hold is not cut to one that is a refusal's.
+    let mut bytes = Vec::new();
+    Answer::Refused(Refusal::Unknown(0x105)).encode(&mut bytes);
+    assert_eq!(bytes, [0x80, 0xff]);
+    is_none(&bytes, 0);
     is_none(&[0x82, 1, 2, 3], 0);
     is_none(&[0x82, 1, 2, 3, 4, 0x83], 5);
     is_none(&[0x81, 0x83, 1, 2, 3], 0);

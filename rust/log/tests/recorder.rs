@@ -8,7 +8,7 @@ use std::rc::Rc;
 use std::time::Instant;
 
 use common::{play_on_library, play_on_program};
-use ivshmem::{Delivery, Hub, PeerId, Placement, Refusal, Section, Settings, hub_words, register};
+use ivshmem::{Delivery, Hub, PeerId, Placement, Refusal, Region, Section, Settings, hub_words, register};
 use ivshmem_log::{Answer, LONGEST_REGION, Log, MOST_NOTES, Player, Recorder, SetUpError, Why, Written};
 use model::call::{Call, Event, Lengths};
 use model::compare::Pair;
@@ -311,6 +311,39 @@ fn what_a_log_cannot_hold_is_noted_in_words() {
     assert_eq!(text, ten_notes().map(|line| format!("      42  {line}")));
     assert!(log.notes().iter().all(|note| note.records == 2 && note.place == 42));
     assert_eq!(played(&log.into_writer()), [0x81, 0x81, 0x80, 5]);
+}
+
+/// With a region that guests may change the log is the same as with a slice; questions of the host are in neither.
+#[test]
+fn regions_and_questions() {
+    let written = |handles: bool| {
+        let (mut words, mut bytes, mut table) = ([0; WORDS], [7; TOTAL], [Delivery::default(); 2]);
+        let (mut log, mut buffer) = (Log::new(Vec::new()), [0; 2]);
+        if handles {
+            let region = &mut Region::from_slice(&mut bytes);
+            let mut hub = Recorder::set_up_at(&mut words, &SETTINGS, region, &mut log).unwrap();
+            assert_eq!((hub.is_sound(), hub.is_connected(ZERO)), (true, Ok(false)));
+            hub.connect(ZERO).unwrap();
+            assert_eq!(hub.is_connected(ZERO), Ok(true));
+            assert_eq!(hub.is_connected(PeerId(2)), Err(Refusal::NoSuchPeer));
+            hub.store_at(region, ZERO, 8192, b"ab").unwrap();
+            hub.load_at(region, ZERO, 8192, &mut buffer).unwrap();
+            assert_eq!(hub.register_write_at(region, &mut table, ZERO, register::STATE, 4, 1), Ok(&[][..]));
+            assert_eq!(hub.reset_at(region, &mut table, ZERO), Ok(&[][..]));
+            assert_eq!(hub.disconnect_at(region, &mut table, ZERO), Ok(&[][..]));
+        } else {
+            let mut hub = Recorder::set_up(&mut words, &SETTINGS, &mut bytes, &mut log).unwrap();
+            hub.connect(ZERO).unwrap();
+            hub.store(&mut bytes, ZERO, 8192, b"ab").unwrap();
+            hub.load(&bytes, ZERO, 8192, &mut buffer).unwrap();
+            assert_eq!(hub.register_write(&mut bytes, &mut table, ZERO, register::STATE, 4, 1), Ok(&[][..]));
+            assert_eq!(hub.reset(&mut bytes, &mut table, ZERO), Ok(&[][..]));
+            assert_eq!(hub.disconnect(&mut bytes, &mut table, ZERO), Ok(&[][..]));
+        }
+        assert_eq!((buffer, log.is_complete(), log.records()), (*b"ab", true, 9));
+        (log.into_writer(), words, bytes)
+    };
+    assert_eq!(written(true), written(false));
 }
 
 #[test]
