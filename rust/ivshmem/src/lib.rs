@@ -14,15 +14,15 @@
 //!
 //! # What a host has to know
 //!
-//! - **Refused reads.** A refused read has no value. In [`raw::Reply`] the value beside the number is then 0, but a guest must see
-//!   all ones, as of a device that does not answer. The methods of [`Hub`] give an `Err` in place of a value, and [`trap`] gives
-//!   the guest its ones.
+//! - **Refused reads.** A refused read has no value. In [`raw::Reply`] the value beside the number is then 0, but a guest must
+//!   see all ones, as of a device that does not answer. The methods of [`Hub`] give an `Err` in place of a value, and [`trap`]
+//!   gives the guest its ones.
 //! - **The region while guests run.** A slice over memory that a guest changes is undefined behaviour. The methods with `_at` in
 //!   their name take a [`Region`] instead; those over slices are for a region that no guest has mapped.
-//! - **Locks.** Methods that take `&self` may run at the same time; one that takes `&mut self` runs while no other on the same hub
-//!   does. Methods on different hubs may run at once. [`Hub`] and [`Region`] are `Send` and `Sync`.
-//! - **Interrupts.** They are injected in their order, all of them, before the next call on the same hub. No guest may learn their
-//!   number.
+//! - **Locks.** Methods that take `&self` may run at the same time; one that takes `&mut self` runs while no other on the same
+//!   hub does. Methods on different hubs may run at once. [`Hub`] and [`Region`] are `Send` and `Sync`.
+//! - **Interrupts.** They are injected in their order, all of them, before the next call on the same hub. No guest may learn
+//!   their number. The compiler warns of an answer that is dropped, but not behind a `?`: `hub.reset(..)?;` drops its interrupts.
 //!
 //! # Example
 //!

@@ -10,9 +10,9 @@ use crate::{Hub, PeerId, Refusal, Settings};
 
 /// The shared region of a hub, also while guests that have mapped it read and change it.
 ///
-/// A `&mut [u8]` says that nobody else reaches the bytes, and a `&[u8]` that nobody changes them; over memory that a
-/// guest may change meanwhile, either is undefined behaviour, however short it lives. A `Region` is an address and a length instead, and never makes
-/// such a reference. The methods of [`Hub`] that are lent the region have two forms:
+/// A `&mut [u8]` says that nobody else reaches the bytes, and a `&[u8]` that nobody changes them; over memory that a guest may
+/// change meanwhile, either is undefined behaviour, however short it lives. A `Region` is an address and a length instead, and
+/// never makes such a reference. The methods of [`Hub`] that are lent the region have two forms:
 ///
 /// - `set_up_at`, `disconnect_at`, `reset_at`, `register_write_at`, `load_at` and `store_at` take a `Region`, as
 ///   [`trap`](crate::trap) does. They are for hosts.

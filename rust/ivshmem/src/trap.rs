@@ -21,12 +21,13 @@
 //!
 //! # What the host is told
 //!
-//! A refusal that is a guest's own doing ([`NotConnected`](Refusal::NotConnected), [`BadWidth`](Refusal::BadWidth),
-//! [`Misaligned`](Refusal::Misaligned), [`OutOfRange`](Refusal::OutOfRange), [`ReadOnly`](Refusal::ReadOnly)) is no error. Every
-//! other is the host's own fault and comes back as `Err`, since no guest can bring it about: damaged words
-//! ([`UnsoundHub`](Refusal::UnsoundHub)), a region of another length ([`BadRegion`](Refusal::BadRegion)), a short table
-//! ([`ShortTable`](Refusal::ShortTable)), a wrong id ([`NoSuchPeer`](Refusal::NoSuchPeer)), or a number of a later library. Then
-//! the access has changed nothing, and all its bytes are FFh: a host goes on with the guest, and reports the fault.
+//! An empty slot is no error ([`NotConnected`](Refusal::NotConnected)), nor is a refusal that is a guest's own doing
+//! ([`BadWidth`](Refusal::BadWidth), [`Misaligned`](Refusal::Misaligned), [`OutOfRange`](Refusal::OutOfRange),
+//! [`ReadOnly`](Refusal::ReadOnly)). Every other comes back as `Err`. It is the host's own fault, since no guest can bring it
+//! about: damaged words ([`UnsoundHub`](Refusal::UnsoundHub)), a region of another length ([`BadRegion`](Refusal::BadRegion)), a
+//! short table ([`ShortTable`](Refusal::ShortTable)) or a wrong id ([`NoSuchPeer`](Refusal::NoSuchPeer)). These are found before
+//! anything is done, so that the access has changed nothing and its bytes are all FFh. The guest may go on; the host reports the
+//! fault. A number that this crate does not know, of a later library, is `Err` too.
 //!
 //! # What the host does
 //!
@@ -285,7 +286,7 @@ fn value_of(piece: &[u8]) -> u32 {
     piece.iter().take(4).rev().fold(0, |value, &byte| value << 8 | u32::from(byte))
 }
 
-/// What was answered; nothing where the refusal is a guest's own doing.
+/// What was answered; nothing where the slot is empty or the refusal is a guest's own doing.
 fn taken<T>(answer: Result<T, Refusal>) -> Result<Option<T>, Refusal> {
     use Refusal::{BadWidth, Misaligned, NotConnected, OutOfRange, ReadOnly};
     match answer {

@@ -301,10 +301,15 @@ fn faults() {
                 }
             }
         }
-        assert_eq!(trap::bars(&Hub::from_words(&mut damaged.words.clone()), ONE), Err(Refusal::UnsoundHub));
-        assert_eq!(trap::rights(&Hub::from_words(&mut damaged.words.clone()), ONE, 0, 1), Err(Refusal::UnsoundHub));
-        assert_eq!(trap::bars(&Hub::from_words(&mut sound.words.clone()), NOBODY), Err(Refusal::NoSuchPeer));
-        assert_eq!(trap::rights(&Hub::from_words(&mut sound.words.clone()), NOBODY, 0, 1), Err(Refusal::NoSuchPeer));
+    }
+}
+
+#[test]
+fn faults_met_by_questions() {
+    let (mut damaged, mut sound) = (Host { words: vec![0; WORDS], ..Host::new() }, Host::new());
+    for (hub, peer, fault) in [(damaged.hub(), ONE, Refusal::UnsoundHub), (sound.hub(), NOBODY, Refusal::NoSuchPeer)] {
+        assert_eq!(trap::bars(&hub, peer), Err(fault));
+        assert_eq!(trap::rights(&hub, peer, 0, 1), Err(fault));
     }
 }
 
