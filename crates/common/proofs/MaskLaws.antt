@@ -5,7 +5,8 @@ use mathlib.Core.Path.{_≡_, sym, ap, _∙_}
 use native.Mathlib.Omega.{arith}
 use borrow.Author.Tests.{eqb-true, eq-eqb}
 use lib.Arith.{bin-ind}
-use lib.Bits.{bitAnd, bitOr, bitXor, and-step, or-step, and-zero-l, and-zero-r, or-zero-l, or-comm, xor-self, xor-add-and, and-block, and-le-l, and-le-r, and-mod}
+use lib.Bits.{bitAnd, bitOr, bitXor, and-step, or-step, and-zero-l, and-zero-r, or-zero-l}
+use lib.Bits.{or-comm, xor-self, xor-add-and, and-block, and-le-l, and-le-r, and-mod}
 use lib.Dec.{eqb}
 use Rattle.common.specs.Bytes.{bit, only, merge}
 use Rattle.common.proofs.TestLaws.{and-left, and-right, alike}

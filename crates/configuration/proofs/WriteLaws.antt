@@ -15,7 +15,8 @@ use Rattle.common.proofs.WordLaws.{byte-and, each-byte, same-word, setByte-smal
 use Rattle.device.specs.Configuration.{within, fields, fieldByte, configurationByte, masks, maskIn, maskAt, maskOf, withByte, writtenByte, configurationWritten}
 use Rattle.device.specs.declared.Peer.{Peer}
 use Rattle.device.specs.declared.Settings.{Settings}
-use Rattle.device.proofs.ConfigurationLaws.{within-true, within-false, in-range, out-of-range, mask-small, byte-mask, written-keeps, written-part, written-reads}
+use Rattle.device.proofs.ConfigurationLaws.{within-true, within-false, in-range, out-of-range, mask-small}
+use Rattle.device.proofs.ConfigurationLaws.{byte-mask, written-keeps, written-part, written-reads}
 use Rattle.configuration.specs.Parts.{lanes, mergeWord, mergeLast, wordWritten}
 use Rattle.configuration.proofs.LaneLaws.{byte-lanes, lanes-small, byte-placed, byte-merge, merge-lane}
 

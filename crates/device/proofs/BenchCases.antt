@@ -15,7 +15,8 @@ use Rattle.device.specs.Configuration.{fields, fieldByte, configurationB
 use Rattle.device.specs.Effect.{changes, announces, registerStored, effect, rungVector, rungPeer}
 use Rattle.device.specs.History
 use Rattle.device.specs.Msix.{inTable, withWord, msixWritten}
-use Rattle.device.specs.Refusal.{lentTo, accessOf, wrongRegion, shortTable, missing, present, wrongWidth, misaligned, outside, forbidden, isConnected, refusal}
+use Rattle.device.specs.Refusal.{lentTo, accessOf, wrongRegion, shortTable, missing, present}
+use Rattle.device.specs.Refusal.{wrongWidth, misaligned, outside, forbidden, isConnected, refusal}
 use Rattle.device.specs.Registers
 use Rattle.device.specs.Registers.{registerAt, memoryOn, registerValue}
 use Rattle.device.specs.Ring.{gateOf, opens, target, deliveryOf, afterDelivery, ringAt, ring, ringFrom}

@@ -13,7 +13,8 @@ use Rattle.device.specs.Call.{Act, call}
 use Rattle.device.specs.Call.Act.{disconnect, reset, registerWrite}
 use Rattle.device.specs.Configuration.{masks, maskIn, maskAt, maskOf}
 use Rattle.device.specs.Effect.{changes, announces, registerStored, effect}
-use Rattle.device.specs.Refusal.{lentTo, accessOf, wrongRegion, shortTable, missing, present, wrongWidth, misaligned, outside, forbidden, isConnected, refusal}
+use Rattle.device.specs.Refusal.{lentTo, accessOf, wrongRegion, shortTable, missing, present}
+use Rattle.device.specs.Refusal.{wrongWidth, misaligned, outside, forbidden, isConnected, refusal}
 use Rattle.device.specs.Registers.{registerAt, memoryOn}
 use Rattle.device.specs.Ring.{gateOf, opens, target, deliveryOf, afterDelivery, ringAt, ring, ringFrom}
 use Rattle.device.specs.Ring

@@ -16,7 +16,8 @@ use Rattle.common.proofs.ByteLaws.{byte-suc, byte-zero, byte-setByte-same, byte
 use Rattle.common.proofs.TestLaws.{and-left, and-right, by-equal}
 use Rattle.device.specs.declared.Peer.{Peer}
 use Rattle.device.specs.declared.Settings.{Settings}
-use Rattle.device.specs.Configuration.{Field, fieldByte, fields, within, configurationByte, configurationRead, masks, maskIn, maskAt, maskOf, withByte, writtenByte, configurationWritten}
+use Rattle.device.specs.Configuration.{Field, fieldByte, fields, within, configurationByte, configurationRead, masks}
+use Rattle.device.specs.Configuration.{maskIn, maskAt, maskOf, withByte, writtenByte, configurationWritten}
 
 infixr 5 _and_
 -- Reads.

@@ -20,7 +20,8 @@ use Rattle.common.proofs.TestLaws.{and-right, every-true, below-true, alike}
 use Rattle.device.specs.declared.Entry.{Entry}
 use Rattle.device.specs.declared.Peer.{Peer}
 use Rattle.device.specs.declared.Settings.{Settings}
-use Rattle.device.specs.Configuration.{fields, fieldByte, configurationByte, configurationRead, masks, maskIn, maskAt, maskOf, withByte, writtenByte, configurationWritten}
+use Rattle.device.specs.Configuration.{fields, fieldByte, configurationByte, configurationRead, masks, maskIn}
+use Rattle.device.specs.Configuration.{maskAt, maskOf, withByte, writtenByte, configurationWritten}
 use Rattle.device.specs.Msix.{addressMask, wordMask, controlMask, withWord}
 use Rattle.device.specs.Reset.{resetEntry}
 use Rattle.device.specs.Sound.{peerReset, entryFixed, entryReset, peerSound, entrySound, slotSound}

@@ -15,7 +15,8 @@ use Rattle.common.proofs.MaskLaws.{only-merge, only-split, only-join}
 use Rattle.common.proofs.TestLaws.{every-true, by-equal}
 use Rattle.device.specs.declared.Peer.{Peer}
 use Rattle.device.specs.declared.Settings.{Settings}
-use Rattle.device.specs.Configuration.{within, fields, fieldByte, configurationByte, masks, maskIn, maskAt, maskOf, withByte, writtenByte, configurationWritten}
+use Rattle.device.specs.Configuration.{within, fields, fieldByte, configurationByte, masks, maskIn, maskAt}
+use Rattle.device.specs.Configuration.{maskOf, withByte, writtenByte, configurationWritten}
 use Rattle.device.specs.Sound.{peerFixed}
 use Rattle.device.proofs.ConfigurationLaws.{in-range, mask-small, written-keeps}
 

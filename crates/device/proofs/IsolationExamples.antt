@@ -12,13 +12,15 @@ use Rattle.common.specs.Tests.{first, every, below}
 use Rattle.device.specs.declared.Delivery.{Delivery}
 use Rattle.device.specs.declared.Settings.{Settings}
 use Rattle.device.specs.Call.{Call, call}
-use Rattle.device.specs.Call.Act.{connect, disconnect, reset, configurationRead, configurationWrite, registerRead, registerWrite, msixRead, msixWrite, question, load, store}
+use Rattle.device.specs.Call.Act.{connect, disconnect, reset, configurationRead, configurationWrite}
+use Rattle.device.specs.Call.Act.{registerRead, registerWrite, msixRead, msixWrite, question, load, store}
 use Rattle.device.specs.Configuration
 use Rattle.device.specs.Configuration.{fields, fieldByte, configurationByte, masks, maskIn, maskAt, maskOf, withByte, writtenByte, configurationWritten}
 use Rattle.device.specs.Effect.{changes, announces, registerStored, effect}
 use Rattle.device.specs.History.{Observation, start, observed, deliveriesTo, answerTo}
 use Rattle.device.specs.Msix.{inTable, withWord, msixWritten}
-use Rattle.device.specs.Refusal.{lentTo, accessOf, wrongRegion, shortTable, missing, present, wrongWidth, misaligned, outside, forbidden, isConnected, refusal}
+use Rattle.device.specs.Refusal.{lentTo, accessOf, wrongRegion, shortTable, missing, present}
+use Rattle.device.specs.Refusal.{wrongWidth, misaligned, outside, forbidden, isConnected, refusal}
 use Rattle.device.specs.Registers
 use Rattle.device.specs.Registers.{registerAt, memoryOn, registerValue}
 use Rattle.device.specs.Ring.{peerId, vector, gateOf, opens, target, deliveryOf, afterDelivery, ringAt, ring, ringFrom}

@@ -18,7 +18,8 @@ use Rattle.device.specs.Call.{Act, Call, call}
 use Rattle.device.specs.Call.Act.{disconnect, reset, registerWrite}
 use Rattle.device.specs.Effect.{registerStored, effect, rungPeer, rungVector}
 use Rattle.device.specs.History.{Observation, start, after, observed, deliveriesTo, answerTo}
-use Rattle.device.specs.OneShot.{peerOf, interruptControl, oneShot, throughout, interrupts, turnsAct, turns, one, count, timesSet, timesCleared, OneShotLimits}
+use Rattle.device.specs.OneShot.{peerOf, interruptControl, oneShot, throughout, interrupts, turnsAct}
+use Rattle.device.specs.OneShot.{turns, one, count, timesSet, timesCleared, OneShotLimits}
 use Rattle.device.specs.Refusal.{isConnected, refusal}
 use Rattle.device.specs.Registers.{Register, registerAt, memoryOn}
 use Rattle.device.specs.SetUp.{accepted}

@@ -9,7 +9,8 @@ use native.Mathlib.Omega.{arith}
 use Rattle.device.specs.Call.{Call, call}
 use Rattle.device.specs.Call.Act.{configurationWrite, registerWrite, reset}
 use Rattle.device.specs.History.{start, after, observed, deliveriesTo}
-use Rattle.device.specs.OneShot.{interruptControl, oneShot, throughout, interrupts, turnsRegister, turnsAct, turns, one, count, timesSet, timesCleared, Limited}
+use Rattle.device.specs.OneShot.{interruptControl, oneShot, throughout, interrupts, turnsRegister}
+use Rattle.device.specs.OneShot.{turnsAct, turns, one, count, timesSet, timesCleared, Limited}
 use Rattle.device.specs.Registers.{registerAt}
 use Rattle.device.specs.Step.{Outcome, step}
 use Rattle.device.specs.World.{World}

@@ -22,7 +22,8 @@ use Rattle.device.specs.declared.Target.{Target}
 use Rattle.device.specs.declared.Target.the-variants.{Live, Nobody}
 use Rattle.device.specs.declared.Vector.{Vector}
 use Rattle.device.specs.Call.{Act}
-use Rattle.device.specs.Call.Act.{connect, disconnect, reset, configurationRead, configurationWrite, registerRead, registerWrite, msixRead, msixWrite, question, load, store}
+use Rattle.device.specs.Call.Act.{connect, disconnect, reset, configurationRead, configurationWrite}
+use Rattle.device.specs.Call.Act.{registerRead, registerWrite, msixRead, msixWrite, question, load, store}
 use Rattle.device.specs.Configuration.{withByte, writtenByte, configurationWritten}
 use Rattle.device.specs.Effect.{Operation, announces, changes, registerStored, effect}
 use Rattle.device.specs.History.{Observation, deliveriesTo}

@@ -21,12 +21,14 @@ use Rattle.device.specs.declared.Peer.{Peer}
 use Rattle.device.specs.declared.Settings.{Settings}
 use Rattle.device.specs.Call.{Act, Call, call}
 use Rattle.device.specs.Call.Act.{connect, configurationWrite, registerWrite, msixWrite}
-use Rattle.device.specs.Configuration.{fields, fieldByte, configurationByte, configurationRead, masks, maskIn, maskAt, withByte, writtenByte, configurationWritten}
+use Rattle.device.specs.Configuration.{fields, fieldByte, configurationByte, configurationRead, masks}
+use Rattle.device.specs.Configuration.{maskIn, maskAt, withByte, writtenByte, configurationWritten}
 use Rattle.device.specs.Effect.{Operation, announces, changes, registerStored, effect}
 use Rattle.device.specs.History.{start, after}
 use Rattle.device.specs.Msix.{inTable, withWord, msixWritten}
 use Rattle.device.specs.Reached.{Reached, SlotShaped, SoundIsReached}
-use Rattle.device.specs.Refusal.{Lent, Access, lentTo, accessOf, wrongRegion, shortTable, missing, present, wrongWidth, misaligned, outside, forbidden, isConnected, refusal}
+use Rattle.device.specs.Refusal.{Lent, Access, lentTo, accessOf, wrongRegion, shortTable, missing, present}
+use Rattle.device.specs.Refusal.{wrongWidth, misaligned, outside, forbidden, isConnected, refusal}
 use Rattle.device.specs.Registers.{registerAt, memoryOn}
 use Rattle.device.specs.Reset.{resetEntry}
 use Rattle.device.specs.Ring.{Rung, rung, ring, peerId, vector, ringFrom, withInterrupt}

@@ -11,7 +11,8 @@ use Rattle.common.specs.Bytes.{bytes}
 use Rattle.common.proofs.TestLaws.{by-equal}
 use Rattle.device.specs.declared.Settings.{Settings}
 use Rattle.device.specs.Call.{Act, Call, call}
-use Rattle.device.specs.Call.Act.{connect, disconnect, reset, configurationRead, configurationWrite, registerRead, registerWrite, msixRead, msixWrite, question, load, store}
+use Rattle.device.specs.Call.Act.{connect, disconnect, reset, configurationRead, configurationWrite}
+use Rattle.device.specs.Call.Act.{registerRead, registerWrite, msixRead, msixWrite, question, load, store}
 use Rattle.device.specs.Effect.{Effect, Operation, announces, changes, effect, registerStored, rungPeer, rungVector, stateValue, withState}
 use Rattle.device.specs.History.{Observation, deliveriesTo, answerTo}
 use Rattle.device.specs.Msix.{msixWritten}

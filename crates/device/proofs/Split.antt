@@ -22,10 +22,12 @@ use Rattle.device.specs.Call.Act.{configurationWrite}
 use Rattle.device.specs.Configuration.{configurationRead, configurationWritten}
 use Rattle.device.specs.Effect.{effect}
 use Rattle.device.specs.History.{after}
-use Rattle.device.specs.Refusal.{lentTo, accessOf, wrongRegion, shortTable, missing, present, wrongWidth, misaligned, outside, forbidden, isConnected, refusal}
+use Rattle.device.specs.Refusal.{lentTo, accessOf, wrongRegion, shortTable, missing, present}
+use Rattle.device.specs.Refusal.{wrongWidth, misaligned, outside, forbidden, isConnected, refusal}
 use Rattle.device.specs.SetUp.{accepted}
 use Rattle.device.specs.Sound.{slotSound, sound}
-use Rattle.device.specs.Split.{readCall, writeCall, anyWidth, configurationRows, accessNumber, AccessNumbers, Splittable, gives, ReadSplit, ReadSplits, byteWrite, afterBytes, WriteSplit, WriteSplits, AlignedSplits}
+use Rattle.device.specs.Split.{readCall, writeCall, anyWidth, configurationRows, accessNumber, AccessNumbers, Splittable, gives}
+use Rattle.device.specs.Split.{ReadSplit, ReadSplits, byteWrite, afterBytes, WriteSplit, WriteSplits, AlignedSplits}
 use Rattle.device.specs.Step.{Outcome, run, runAll, stepBy, step}
 use Rattle.device.specs.World.{Slot, World, world, zeroSlot, slotAt, withSlot, withPeer}
 use Rattle.device.proofs.ConfigurationLaws.{in-one-word, read-by-bytes, read-within, written-last}

@@ -13,7 +13,8 @@ use Rattle.device.specs.declared.SectionAnswer.{SectionAnswer}
 use Rattle.device.specs.declared.Settings.{Settings}
 use Rattle.device.specs.declared.Vector.{Vector}
 use Rattle.device.specs.Call.{Act}
-use Rattle.device.specs.Call.Act.{connect, disconnect, reset, configurationRead, configurationWrite, registerRead, registerWrite, msixRead, msixWrite, question, load, store}
+use Rattle.device.specs.Call.Act.{connect, disconnect, reset, configurationRead, configurationWrite}
+use Rattle.device.specs.Call.Act.{registerRead, registerWrite, msixRead, msixWrite, question, load, store}
 use Rattle.device.specs.Configuration
 use Rattle.device.specs.Msix
 use Rattle.device.specs.Registers

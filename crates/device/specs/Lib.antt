@@ -1,4 +1,4 @@
--- The whole meaning of the device, in the order of its rules. Read Step last: it puts the parts together.
+-- The whole meaning of the device, in the order of its rules. Step puts the parts together: read it first, then what it names.
 pub mod Sizes
 pub mod Reset
 pub mod World

@@ -13,7 +13,8 @@ use Rattle.device.specs.declared.PeerId.{PeerId}
 use Rattle.device.specs.declared.Settings.{Settings}
 use Rattle.device.specs.declared.Vector.{Vector}
 use Rattle.device.specs.Call.{Act, Call}
-use Rattle.device.specs.Call.Act.{connect, disconnect, reset, configurationRead, configurationWrite, registerRead, registerWrite, msixRead, msixWrite, question, load, store}
+use Rattle.device.specs.Call.Act.{connect, disconnect, reset, configurationRead, configurationWrite}
+use Rattle.device.specs.Call.Act.{registerRead, registerWrite, msixRead, msixWrite, question, load, store}
 use Rattle.device.specs.History.{Observation, start, after, observed}
 use Rattle.device.specs.Refusal.{isConnected}
 use Rattle.device.specs.Registers.{Register, registerAt, memoryOn}

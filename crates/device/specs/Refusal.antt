@@ -8,7 +8,8 @@ use lib.ListN.{length}
 use Rattle.common.specs.Tests.{Row, row, first}
 use Rattle.device.specs.declared.Settings.{Settings}
 use Rattle.device.specs.Call.{Act, Call}
-use Rattle.device.specs.Call.Act.{connect, disconnect, reset, configurationRead, configurationWrite, registerRead, registerWrite, msixRead, msixWrite, question, load, store}
+use Rattle.device.specs.Call.Act.{connect, disconnect, reset, configurationRead, configurationWrite}
+use Rattle.device.specs.Call.Act.{registerRead, registerWrite, msixRead, msixWrite, question, load, store}
 use Rattle.device.specs.Sections.{sectionOf, somewhere, mayStore}
 use Rattle.device.specs.SetUp.{total}
 use Rattle.device.specs.Sound.{sound}

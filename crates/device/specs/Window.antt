@@ -8,7 +8,8 @@ use Rattle.common.specs.Bytes.{bit, byte}
 use Rattle.device.specs.declared.Settings.{Settings}
 use Rattle.device.specs.declared.Vector.{Vector}
 use Rattle.device.specs.Call.{Act, Call}
-use Rattle.device.specs.Call.Act.{connect, disconnect, reset, configurationRead, configurationWrite, registerRead, registerWrite, msixRead, msixWrite, question, load, store}
+use Rattle.device.specs.Call.Act.{connect, disconnect, reset, configurationRead, configurationWrite}
+use Rattle.device.specs.Call.Act.{registerRead, registerWrite, msixRead, msixWrite, question, load, store}
 use Rattle.device.specs.Configuration.{within}
 use Rattle.device.specs.Effect.{rungVector, rungPeer, stateValue, changes}
 use Rattle.device.specs.History.{start, after, observed, spacesOf}

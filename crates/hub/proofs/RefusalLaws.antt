@@ -10,7 +10,8 @@ use borrow.Author.Tests.{eqb-true, eqb-false, leb-false, ltb-false, not-false}
 use Rattle.common.specs.Tests.{first}
 use Rattle.common.proofs.TestLaws.{and-right, below-true, first-none, first-parts}
 use Rattle.device.specs.Call.{Act, Call, call}
-use Rattle.device.specs.Refusal.{Lent, Access, checks, lentTo, accessOf, wrongRegion, shortTable, missing, present, wrongWidth, misaligned, outside, forbidden, isConnected, refusal}
+use Rattle.device.specs.Refusal.{Lent, Access, checks, lentTo, accessOf, wrongRegion, shortTable, missing, present}
+use Rattle.device.specs.Refusal.{wrongWidth, misaligned, outside, forbidden, isConnected, refusal}
 use Rattle.device.specs.Reset.{resetPeer}
 use Rattle.device.specs.Sections.{sectionOf, somewhere}
 use Rattle.device.specs.SetUp.{accepted, total}
@@ -22,7 +23,8 @@ use Rattle.soundness.proofs.WholeLaws.{sound-numbers, sound-room}
 use Rattle.words.specs.Layout.{hubOf}
 use Rattle.words.proofs.LayoutLaws.{entries-length}
 use Rattle.hub.specs.declared.Lending.{Lending}
-use Rattle.hub.specs.Admission.{nothingLent, regionLent, bothLent, admission, joiningRows, spaceRows, rangeRows, storeRows, anyWidth, Admitted, Inside, InSection}
+use Rattle.hub.specs.Admission.{nothingLent, regionLent, bothLent, admission, joiningRows, spaceRows}
+use Rattle.hub.specs.Admission.{rangeRows, storeRows, anyWidth, Admitted, Inside, InSection}
 
 known-caller : (ws : List ℕ) (lent : Lending) (id : ℕ) → not (sound (hubOf ws)) ≡ false →
     (lent .regional ≡ true → lent .region ≡ total (hubOf ws .settings)) → leb (hubOf ws .settings .peers) id ≡ false →

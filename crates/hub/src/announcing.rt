@@ -51,7 +51,8 @@ fn store_register(
     value: u32,
 ) -> Deliveries
     requires { ⌜ Ready (now hub) (now region) id ⌝ }
-    ensures { λ r. ⌜ Runs (now (hub .entry)) (now (hub .exit)) (now (region .entry)) (now (region .exit)) id (registerStored id (slotAt (hubOf (now (hub .entry))) id) (registerAt offset) value) r ⌝ }
+    ensures { λ r. ⌜ Runs (now (hub .entry)) (now (hub .exit)) (now (region .entry)) (now (region .exit)) id
+        (registerStored id (slotAt (hubOf (now (hub .entry))) id) (registerAt offset) value) r ⌝ }
 {
     let p = words::peer(hub, id as usize);
     match offset {
@@ -83,7 +84,8 @@ pub fn register_write(
     width: u64,
     value: u32,
 ) -> Served
-    ensures { λ r. ⌜ Serves (now (hub .entry)) (now (hub .exit)) (now (region .entry)) (now (region .exit)) (call id (Call.Act.registerWrite records offset width value)) r ⌝ }
+    ensures { λ r. ⌜ Serves (now (hub .entry)) (now (hub .exit)) (now (region .entry)) (now (region .exit))
+        (call id (Call.Act.registerWrite records offset width value)) r ⌝ }
 {
     let lent = refusals::both_lent(region.len() as u64, records);
     let number = refusals::space_refusal(hub, lent, id, 4096, width == 4, offset, width);

@@ -61,7 +61,8 @@ pub fn set_up(
     vendor: u16,
     subsystem: u16,
 ) -> Reply
-    ensures { λ r. ⌜ SetsUp (now (hub .entry)) (now (hub .exit)) (now (region .entry)) (now (region .exit)) (numbers peers vectors table common output base protocol vendor subsystem) r ⌝ }
+    ensures { λ r. ⌜ SetsUp (now (hub .entry)) (now (hub .exit)) (now (region .entry)) (now (region .exit))
+        (numbers peers vectors table common output base protocol vendor subsystem) r ⌝ }
 {
     let s = Settings {
         peers,

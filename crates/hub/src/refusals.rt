@@ -149,7 +149,8 @@ pub fn range_refusal(hub: &[u32], lent: Lending, id: u64, offset: u64, length: u
 
 // The same with 9, for a range that is to be stored to.
 pub fn store_refusal(hub: &[u32], lent: Lending, id: u64, offset: u64, length: u64) -> u32
-    ensures is { λ r. ⌜ r ≡ first ((admission (hubOf (now (hub .entry))) lent id ++ rangeRows (hubOf (now (hub .entry)) .settings) offset length) ++ storeRows (hubOf (now (hub .entry)) .settings) id offset length) ⌝ }
+    ensures is { λ r. ⌜ r ≡ first ((admission (hubOf (now (hub .entry))) lent id ++ rangeRows
+        (hubOf (now (hub .entry)) .settings) offset length) ++ storeRows (hubOf (now (hub .entry)) .settings) id offset length) ⌝ }
     ensures caller { λ r. ⌜ (r ≡ 0 → Admitted (now (hub .entry)) lent id) ⌝ }
     ensures access { λ r. ⌜ (r ≡ 0 → InSection (hubOf (now (hub .entry)) .settings) offset length) ⌝ }
 {

@@ -9,7 +9,8 @@ ghost use Rattle.hub.specs.Promises.{Loads, Stores};
 
 // Fills the lent buffer, whose length is the load's.
 pub fn load(hub: &[u32], region: &[u8], id: u64, offset: u64, buffer: &mut [u8]) -> Reply
-    ensures { λ r. ⌜ Loads (now (hub .entry)) (now (region .entry)) (now (buffer .entry)) (now (buffer .exit)) (call id (Call.Act.load offset (length (now (buffer .entry))))) r ⌝ }
+    ensures { λ r. ⌜ Loads (now (hub .entry)) (now (region .entry)) (now (buffer .entry)) (now (buffer .exit))
+        (call id (Call.Act.load offset (length (now (buffer .entry))))) r ⌝ }
 {
     let lent = refusals::region_lent(region.len() as u64);
     let number = refusals::range_refusal(hub, lent, id, offset, buffer.len() as u64);

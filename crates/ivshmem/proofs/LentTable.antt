@@ -16,7 +16,8 @@ use prog.Wp.{Heap, Env, Calls, Loops}
 use ghost.Atoms.{Atoms, sem}
 use contract.Monad.{Fun}
 use sound.WpLaws.{FmC}
-use types.Kit.{Given, Item, Goal, Soaks, Seq, Post, runs, lands, ‵, raw, given, _⊛_, some, later, ⋆, _$_, _∵_, !, qed, move, use0, use2, use3, drop, split, join, pick, learn, fsplit, fjoin, feqI, frame, await, done}
+use types.Kit.{Given, Item, Goal, Soaks, Seq, Post, runs, lands, ‵, raw, given, _⊛_, some, later, ⋆, _$_, _∵_, !, qed}
+use types.Kit.{move, use0, use2, use3, drop, split, join, pick, learn, fsplit, fjoin, feqI, frame, await, done}
 use types.Run.{Opds}
 use types.Tokens.{lft-new, lft-end}
 use borrow.Rule.Slice.Handed.{sl-share}

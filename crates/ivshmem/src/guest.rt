@@ -120,7 +120,8 @@ pub extern "C" fn ivshmem_load(
     offset: u64,
     buffer: &mut [u8],
 ) -> Reply
-    ensures { λ r. ⌜ Loads (now (hub .entry)) (now (region .entry)) (now (buffer .entry)) (now (buffer .exit)) (call id (Act.load offset (length (now (buffer .entry))))) r ⌝ }
+    ensures { λ r. ⌜ Loads (now (hub .entry)) (now (region .entry)) (now (buffer .entry)) (now (buffer .exit))
+        (call id (Act.load offset (length (now (buffer .entry))))) r ⌝ }
 {
     hub::load(hub, region, id, offset, buffer)
 }

@@ -49,7 +49,8 @@ pub extern "C" fn ivshmem_register_write(
     width: u64,
     value: u32,
 ) -> Counted
-    ensures { λ r. ⌜ HandsOut (now (hub .entry)) (now (hub .exit)) (now (region .entry)) (now (region .exit)) (now (table .entry)) (now (table .exit)) id (λ (n : ℕ). Act.registerWrite n offset width value) r ⌝ }
+    ensures { λ r. ⌜ HandsOut (now (hub .entry)) (now (hub .exit)) (now (region .entry)) (now (region .exit))
+        (now (table .entry)) (now (table .exit)) id (λ (n : ℕ). Act.registerWrite n offset width value) r ⌝ }
 {
     let out = hub::register_write(hub, region, table.len() as u64, id, offset, width, value);
     let count = deliveries::hand_out(hub, table, out.list);
@@ -66,7 +67,8 @@ pub extern "C" fn ivshmem_reset(
     table: &mut [Delivery],
     id: u64,
 ) -> Counted
-    ensures { λ r. ⌜ HandsOut (now (hub .entry)) (now (hub .exit)) (now (region .entry)) (now (region .exit)) (now (table .entry)) (now (table .exit)) id Act.reset r ⌝ }
+    ensures { λ r. ⌜ HandsOut (now (hub .entry)) (now (hub .exit)) (now (region .entry)) (now (region .exit))
+        (now (table .entry)) (now (table .exit)) id Act.reset r ⌝ }
 {
     let out = hub::reset(hub, region, table.len() as u64, id);
     let count = deliveries::hand_out(hub, table, out.list);
@@ -83,7 +85,8 @@ pub extern "C" fn ivshmem_disconnect(
     table: &mut [Delivery],
     id: u64,
 ) -> Counted
-    ensures { λ r. ⌜ HandsOut (now (hub .entry)) (now (hub .exit)) (now (region .entry)) (now (region .exit)) (now (table .entry)) (now (table .exit)) id Act.disconnect r ⌝ }
+    ensures { λ r. ⌜ HandsOut (now (hub .entry)) (now (hub .exit)) (now (region .entry)) (now (region .exit))
+        (now (table .entry)) (now (table .exit)) id Act.disconnect r ⌝ }
 {
     let out = hub::disconnect(hub, region, table.len() as u64, id);
     let count = deliveries::hand_out(hub, table, out.list);

@@ -14,7 +14,8 @@ use Rattle.device.specs.declared.Reply.{Reply}
 use Rattle.device.proofs.QuietLaws.{mayRing, quiet}
 use Rattle.device.proofs.StepLaws.{readsOnly, reads-keep-world}
 use Rattle.device.specs.Call.{Act, Call}
-use Rattle.device.specs.Call.Act.{connect, disconnect, reset, configurationRead, configurationWrite, registerRead, registerWrite, msixRead, msixWrite, question, load, store}
+use Rattle.device.specs.Call.Act.{connect, disconnect, reset, configurationRead, configurationWrite}
+use Rattle.device.specs.Call.Act.{registerRead, registerWrite, msixRead, msixWrite, question, load, store}
 use Rattle.device.specs.Effect.{Operation, effect}
 use Rattle.device.specs.Refusal.{Lent, lentTo, refusal}
 use Rattle.device.specs.Registers.{memoryOn}

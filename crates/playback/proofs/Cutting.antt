@@ -13,7 +13,8 @@ use Rattle.common.specs.Streams.{Fed, fedTo, fedAll}
 use Rattle.device.specs.World.{World}
 use Rattle.playback.proofs.RecordLaws.{record-some}
 use Rattle.playback.specs.Answers.{answer}
-use Rattle.playback.specs.Cutting.{playedInPieces, CuttingChangesNothing, Calls, CallsAreFeeding, CallsPlay, RecordsAreAnswered, PartsAreHeld, NothingElse}
+use Rattle.playback.specs.Cutting.{playedInPieces, CuttingChangesNothing, Calls, CallsAreFeeding}
+use Rattle.playback.specs.Cutting.{CallsPlay, RecordsAreAnswered, PartsAreHeld, NothingElse}
 use Rattle.playback.specs.Log.{kindOf, recordLength, requestOf, whole}
 use Rattle.playback.specs.Player.{Player, player, after, answers, come, fed, fresh, inside, played}
 use Rattle.playback.specs.Promises.{Writes, playerIn}

@@ -43,7 +43,8 @@ fn width(fields: &[u8]) -> u64
 
 pub fn connect(hub: &mut [u32], fields: &[u8], out: &mut [u8]) -> usize
     requires { ⌜ (3 ≤ length (now fields)) × (longest ≤ length (now out)) ⌝ }
-    ensures { λ r. ⌜ ((region : List ℕ) → Answers (now (hub .entry)) (now (hub .exit)) region region (now (out .entry)) (now (out .exit)) (Request.does (callIn (now (fields .entry)) Act.connect)) r) ⌝ }
+    ensures { λ r. ⌜ ((region : List ℕ) → Answers (now (hub .entry)) (now (hub .exit)) region region (now (out .entry))
+        (now (out .exit)) (Request.does (callIn (now (fields .entry)) Act.connect)) r) ⌝ }
 {
     let r = hub::connect(hub, id(fields));
     answers::done(out, r.number)
@@ -51,7 +52,8 @@ pub fn connect(hub: &mut [u32], fields: &[u8], out: &mut [u8]) -> usize
 
 pub fn disconnect(hub: &mut [u32], region: &mut [u8], fields: &[u8], out: &mut [u8]) -> usize
     requires { ⌜ (3 ≤ length (now fields)) × (longest ≤ length (now out)) ⌝ }
-    ensures { λ r. ⌜ Answers (now (hub .entry)) (now (hub .exit)) (now (region .entry)) (now (region .exit)) (now (out .entry)) (now (out .exit)) (Request.does (callIn (now (fields .entry)) (Act.disconnect maxPeers))) r ⌝ }
+    ensures { λ r. ⌜ Answers (now (hub .entry)) (now (hub .exit)) (now (region .entry)) (now (region .exit)) (now (out .entry))
+        (now (out .exit)) (Request.does (callIn (now (fields .entry)) (Act.disconnect maxPeers))) r ⌝ }
 {
     let s = hub::disconnect(hub, region, device::max_peers() as u64, id(fields));
     let reply = s.reply;
@@ -61,7 +63,8 @@ pub fn disconnect(hub: &mut [u32], region: &mut [u8], fields: &[u8], out: &mut [
 
 pub fn reset(hub: &mut [u32], region: &mut [u8], fields: &[u8], out: &mut [u8]) -> usize
     requires { ⌜ (3 ≤ length (now fields)) × (longest ≤ length (now out)) ⌝ }
-    ensures { λ r. ⌜ Answers (now (hub .entry)) (now (hub .exit)) (now (region .entry)) (now (region .exit)) (now (out .entry)) (now (out .exit)) (Request.does (callIn (now (fields .entry)) (Act.reset maxPeers))) r ⌝ }
+    ensures { λ r. ⌜ Answers (now (hub .entry)) (now (hub .exit)) (now (region .entry)) (now (region .exit)) (now (out .entry))
+        (now (out .exit)) (Request.does (callIn (now (fields .entry)) (Act.reset maxPeers))) r ⌝ }
 {
     let s = hub::reset(hub, region, device::max_peers() as u64, id(fields));
     let reply = s.reply;
@@ -71,7 +74,9 @@ pub fn reset(hub: &mut [u32], region: &mut [u8], fields: &[u8], out: &mut [u8]) 
 
 pub fn configuration_read(hub: &[u32], fields: &[u8], out: &mut [u8]) -> usize
     requires { ⌜ (6 ≤ length (now fields)) × (longest ≤ length (now out)) ⌝ }
-    ensures { λ r. ⌜ ((region : List ℕ) → Answers (now (hub .entry)) (now (hub .entry)) region region (now (out .entry)) (now (out .exit)) (Request.reads (callIn (now (fields .entry)) (Act.configurationRead (field 3 2 (now (fields .entry))) (field 5 1 (now (fields .entry)))))) r) ⌝ }
+    ensures { λ r. ⌜ ((region : List ℕ) → Answers (now (hub .entry)) (now (hub .entry)) region region (now (out .entry))
+        (now (out .exit)) (Request.reads (callIn (now (fields .entry)) (Act.configurationRead (field 3 2 (now (fields .entry)))
+        (field 5 1 (now (fields .entry)))))) r) ⌝ }
 {
     let r = hub::configuration_read(hub, id(fields), offset(fields), width(fields));
     answers::value(out, r.number, r.value)
@@ -79,7 +84,9 @@ pub fn configuration_read(hub: &[u32], fields: &[u8], out: &mut [u8]) -> usize
 
 pub fn configuration_write(hub: &mut [u32], fields: &[u8], out: &mut [u8]) -> usize
     requires { ⌜ (10 ≤ length (now fields)) × (longest ≤ length (now out)) ⌝ }
-    ensures { λ r. ⌜ ((region : List ℕ) → Answers (now (hub .entry)) (now (hub .exit)) region region (now (out .entry)) (now (out .exit)) (Request.does (callIn (now (fields .entry)) (Act.configurationWrite (field 3 2 (now (fields .entry))) (field 5 1 (now (fields .entry))) (field 6 4 (now (fields .entry)))))) r) ⌝ }
+    ensures { λ r. ⌜ ((region : List ℕ) → Answers (now (hub .entry)) (now (hub .exit)) region region (now (out .entry))
+        (now (out .exit)) (Request.does (callIn (now (fields .entry)) (Act.configurationWrite (field 3 2 (now (fields .entry)))
+        (field 5 1 (now (fields .entry))) (field 6 4 (now (fields .entry)))))) r) ⌝ }
 {
     let x = numbers::four(fields, 6);
     let r = hub::configuration_write(hub, id(fields), offset(fields), width(fields), x);
@@ -88,7 +95,8 @@ pub fn configuration_write(hub: &mut [u32], fields: &[u8], out: &mut [u8]) -> us
 
 pub fn register_read(hub: &[u32], fields: &[u8], out: &mut [u8]) -> usize
     requires { ⌜ (5 ≤ length (now fields)) × (longest ≤ length (now out)) ⌝ }
-    ensures { λ r. ⌜ ((region : List ℕ) → Answers (now (hub .entry)) (now (hub .entry)) region region (now (out .entry)) (now (out .exit)) (Request.reads (callIn (now (fields .entry)) (Act.registerRead (field 3 2 (now (fields .entry))) 4))) r) ⌝ }
+    ensures { λ r. ⌜ ((region : List ℕ) → Answers (now (hub .entry)) (now (hub .entry)) region region (now (out .entry))
+        (now (out .exit)) (Request.reads (callIn (now (fields .entry)) (Act.registerRead (field 3 2 (now (fields .entry))) 4))) r) ⌝ }
 {
     let r = hub::register_read(hub, id(fields), offset(fields), 4);
     answers::value(out, r.number, r.value)
@@ -96,7 +104,9 @@ pub fn register_read(hub: &[u32], fields: &[u8], out: &mut [u8]) -> usize
 
 pub fn register_write(hub: &mut [u32], region: &mut [u8], fields: &[u8], out: &mut [u8]) -> usize
     requires { ⌜ (9 ≤ length (now fields)) × (longest ≤ length (now out)) ⌝ }
-    ensures { λ r. ⌜ Answers (now (hub .entry)) (now (hub .exit)) (now (region .entry)) (now (region .exit)) (now (out .entry)) (now (out .exit)) (Request.does (callIn (now (fields .entry)) (Act.registerWrite maxPeers (field 3 2 (now (fields .entry))) 4 (field 5 4 (now (fields .entry)))))) r ⌝ }
+    ensures { λ r. ⌜ Answers (now (hub .entry)) (now (hub .exit)) (now (region .entry)) (now (region .exit)) (now (out .entry))
+        (now (out .exit)) (Request.does (callIn (now (fields .entry))
+        (Act.registerWrite maxPeers (field 3 2 (now (fields .entry))) 4 (field 5 4 (now (fields .entry)))))) r ⌝ }
 {
     let x = numbers::four(fields, 5);
     let n = device::max_peers() as u64;
@@ -108,7 +118,8 @@ pub fn register_write(hub: &mut [u32], region: &mut [u8], fields: &[u8], out: &m
 
 pub fn msix_read(hub: &[u32], fields: &[u8], out: &mut [u8]) -> usize
     requires { ⌜ (5 ≤ length (now fields)) × (longest ≤ length (now out)) ⌝ }
-    ensures { λ r. ⌜ ((region : List ℕ) → Answers (now (hub .entry)) (now (hub .entry)) region region (now (out .entry)) (now (out .exit)) (Request.reads (callIn (now (fields .entry)) (Act.msixRead (field 3 2 (now (fields .entry))) 4))) r) ⌝ }
+    ensures { λ r. ⌜ ((region : List ℕ) → Answers (now (hub .entry)) (now (hub .entry)) region region (now (out .entry))
+        (now (out .exit)) (Request.reads (callIn (now (fields .entry)) (Act.msixRead (field 3 2 (now (fields .entry))) 4))) r) ⌝ }
 {
     let r = hub::msix_read(hub, id(fields), offset(fields), 4);
     answers::value(out, r.number, r.value)
@@ -116,7 +127,9 @@ pub fn msix_read(hub: &[u32], fields: &[u8], out: &mut [u8]) -> usize
 
 pub fn msix_write(hub: &mut [u32], fields: &[u8], out: &mut [u8]) -> usize
     requires { ⌜ (9 ≤ length (now fields)) × (longest ≤ length (now out)) ⌝ }
-    ensures { λ r. ⌜ ((region : List ℕ) → Answers (now (hub .entry)) (now (hub .exit)) region region (now (out .entry)) (now (out .exit)) (Request.does (callIn (now (fields .entry)) (Act.msixWrite (field 3 2 (now (fields .entry))) 4 (field 5 4 (now (fields .entry)))))) r) ⌝ }
+    ensures { λ r. ⌜ ((region : List ℕ) → Answers (now (hub .entry)) (now (hub .exit)) region region (now (out .entry))
+        (now (out .exit)) (Request.does (callIn (now (fields .entry)) (Act.msixWrite (field 3 2 (now (fields .entry))) 4
+        (field 5 4 (now (fields .entry)))))) r) ⌝ }
 {
     let x = numbers::four(fields, 5);
     let r = hub::msix_write(hub, id(fields), offset(fields), 4, x);
@@ -131,7 +144,9 @@ fn wide(b: u8) -> u32
 
 pub fn load(hub: &[u32], region: &[u8], fields: &[u8], out: &mut [u8]) -> usize
     requires { ⌜ (7 ≤ length (now fields)) × (longest ≤ length (now out)) ⌝ }
-    ensures { λ r. ⌜ Answers (now (hub .entry)) (now (hub .entry)) (now (region .entry)) (now (region .entry)) (now (out .entry)) (now (out .exit)) (Request.loads (callIn (now (fields .entry)) (Act.load (field 3 4 (now (fields .entry))) 1))) r ⌝ }
+    ensures { λ r. ⌜ Answers (now (hub .entry)) (now (hub .entry)) (now (region .entry)) (now (region .entry))
+        (now (out .entry)) (now (out .exit))
+        (Request.loads (callIn (now (fields .entry)) (Act.load (field 3 4 (now (fields .entry))) 1))) r ⌝ }
 {
     let mut loaded = [0u8; 1];
     let r = hub::load(hub, region, id(fields), shared_offset(fields), &mut loaded);
@@ -140,7 +155,9 @@ pub fn load(hub: &[u32], region: &[u8], fields: &[u8], out: &mut [u8]) -> usize
 
 pub fn store(hub: &[u32], region: &mut [u8], fields: &[u8], out: &mut [u8]) -> usize
     requires { ⌜ (8 ≤ length (now fields)) × (longest ≤ length (now out)) ⌝ }
-    ensures { λ r. ⌜ Answers (now (hub .entry)) (now (hub .entry)) (now (region .entry)) (now (region .exit)) (now (out .entry)) (now (out .exit)) (Request.does (callIn (now (fields .entry)) (Act.store (field 3 4 (now (fields .entry))) ((field 7 1 (now (fields .entry))) ∷ [])))) r ⌝ }
+    ensures { λ r. ⌜ Answers (now (hub .entry)) (now (hub .entry)) (now (region .entry)) (now (region .exit)) (now (out .entry))
+        (now (out .exit)) (Request.does (callIn (now (fields .entry)) (Act.store (field 3 4 (now (fields .entry)))
+        ((field 7 1 (now (fields .entry))) ∷ [])))) r ⌝ }
 {
     let r = hub::store(
         hub,

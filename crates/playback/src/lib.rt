@@ -101,7 +101,8 @@ fn take_byte(
 ) -> Taken
     requires lent { ⌜ Lent (now hub) (now region) (now held) p ⌝ }
     requires room { ⌜ longest ≤ length (now out) ⌝ }
-    ensures { λ r. ⌜ Goes (now (hub .exit)) (now (region .exit)) (now (held .exit)) (now (out .entry)) (now (out .exit)) (r .progress) (r .written) (fed (playerIn (now (hub .entry)) (now (region .entry)) (now (held .entry)) p) byte) ⌝ }
+    ensures { λ r. ⌜ Goes (now (hub .exit)) (now (region .exit)) (now (held .exit)) (now (out .entry)) (now (out .exit))
+        (r .progress) (r .written) (fed (playerIn (now (hub .entry)) (now (region .entry)) (now (held .entry)) p) byte) ⌝ }
 {
     if p.stopped {
         return Taken {
@@ -149,7 +150,8 @@ fn feed_lent(
 ) -> Report
     requires lent { ⌜ Lent (now hub) (now region) (now held) progress ⌝ }
     requires room { ⌜ longest ≤ length (now out) ⌝ }
-    ensures { λ r. ⌜ Feeds (playerIn (now (hub .entry)) (now (region .entry)) (now (held .entry)) progress) (now (hub .exit)) (now (region .exit)) (now (held .exit)) (now (piece .entry)) (now (out .entry)) (now (out .exit)) r ⌝ }
+    ensures { λ r. ⌜ Feeds (playerIn (now (hub .entry)) (now (region .entry)) (now (held .entry)) progress) (now (hub .exit))
+        (now (region .exit)) (now (held .exit)) (now (piece .entry)) (now (out .entry)) (now (out .exit)) r ⌝ }
 {
     let last = out.len() - longest_answer();
     let mut p = progress;
@@ -180,8 +182,10 @@ pub fn feed(
     out: &mut [u8],
 ) -> Report
     ensures number { λ r. ⌜ r .number ≡ refusalOf (now (hub .entry)) (now (region .entry)) (now (held .entry)) progress (length (now (out .entry))) ⌝ }
-    ensures refused { λ r. ⌜ ((r .number ≡ 0 → ⊥) → Refuses (now (hub .entry)) (now (hub .exit)) (now (region .entry)) (now (region .exit)) (now (held .entry)) (now (held .exit)) (now (out .entry)) (now (out .exit)) progress r) ⌝ }
-    ensures fed { λ r. ⌜ (r .number ≡ 0 → Feeds (playerIn (now (hub .entry)) (now (region .entry)) (now (held .entry)) progress) (now (hub .exit)) (now (region .exit)) (now (held .exit)) (now (piece .entry)) (now (out .entry)) (now (out .exit)) r) ⌝ }
+    ensures refused { λ r. ⌜ ((r .number ≡ 0 → ⊥) → Refuses (now (hub .entry)) (now (hub .exit)) (now (region .entry))
+        (now (region .exit)) (now (held .entry)) (now (held .exit)) (now (out .entry)) (now (out .exit)) progress r) ⌝ }
+    ensures fed { λ r. ⌜ (r .number ≡ 0 → Feeds (playerIn (now (hub .entry)) (now (region .entry)) (now (held .entry)) progress)
+        (now (hub .exit)) (now (region .exit)) (now (held .exit)) (now (piece .entry)) (now (out .entry)) (now (out .exit)) r) ⌝ }
 {
     let number = refusal(hub, region, held, progress, out.len());
     if number != 0 {

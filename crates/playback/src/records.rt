@@ -77,7 +77,9 @@ fn progress(words: usize, bytes: usize, stopped: bool) -> Progress
 fn set_up(hub: &mut [u32], region: &mut [u8], fields: &[u8], out: &mut [u8]) -> Taken
     requires lent { ⌜ (length (now hub) ≡ hubWords maxPeers maxVectors) × (length (now region) ≡ maxTotal) ⌝ }
     requires room { ⌜ (longestRecord ≤ length (now fields)) × (longest ≤ length (now out)) ⌝ }
-    ensures { λ r. ⌜ ((held : List ℕ) → length held ≡ longestRecord → (w : World) → Goes (now (hub .exit)) (now (region .exit)) held (now (out .entry)) (now (out .exit)) (r .progress) (r .written) (after (answer w (Request.setUp (settingsIn (now (fields .entry))))))) ⌝ }
+    ensures { λ r. ⌜ ((held : List ℕ) → length held ≡ longestRecord → (w : World) → Goes (now (hub .exit))
+        (now (region .exit)) held (now (out .entry)) (now (out .exit)) (r .progress) (r .written)
+        (after (answer w (Request.setUp (settingsIn (now (fields .entry))))))) ⌝ }
 {
     let s = settings(fields);
     let ok = playable(s);
@@ -110,7 +112,8 @@ fn set_up(hub: &mut [u32], region: &mut [u8], fields: &[u8], out: &mut [u8]) -> 
 fn call(hub: &mut [u32], region: &mut [u8], fields: &[u8], out: &mut [u8]) -> usize
     requires known { ⌜ (0 < kindOf (now fields)) × (kindOf (now fields) < 12) ⌝ }
     requires room { ⌜ (recordLength (kindOf (now fields)) ≤ length (now fields)) × (longest ≤ length (now out)) ⌝ }
-    ensures { λ r. ⌜ Promises.Answers (now (hub .entry)) (now (hub .exit)) (now (region .entry)) (now (region .exit)) (now (out .entry)) (now (out .exit)) (requestOf (kindOf (now (fields .entry))) (now (fields .entry))) r ⌝ }
+    ensures { λ r. ⌜ Promises.Answers (now (hub .entry)) (now (hub .exit)) (now (region .entry)) (now (region .exit))
+        (now (out .entry)) (now (out .exit)) (requestOf (kindOf (now (fields .entry))) (now (fields .entry))) r ⌝ }
 {
     let kind = fields[0];
     match kind {
@@ -140,7 +143,10 @@ pub fn answer(
     requires lent { ⌜ (length (now hub) ≡ hubWords maxPeers maxVectors) × (length (now region) ≡ maxTotal) ⌝ }
     requires used { ⌜ (words ≤ length (now hub)) × (bytes ≤ length (now region)) ⌝ }
     requires room { ⌜ (recordLength (kindOf (now fields)) ≤ length (now fields)) × (longest ≤ length (now out)) ⌝ }
-    ensures { λ r. ⌜ ((held : List ℕ) → length held ≡ longestRecord → Goes (now (hub .exit)) (now (region .exit)) held (now (out .entry)) (now (out .exit)) (r .progress) (r .written) (after (answer (worldIn (now (hub .entry)) (now (region .entry)) words bytes) (requestOf (kindOf (now (fields .entry))) (now (fields .entry)))))) ⌝ }
+    ensures { λ r. ⌜ ((held : List ℕ) → length held ≡ longestRecord → Goes (now (hub .exit)) (now (region .exit)) held
+        (now (out .entry)) (now (out .exit)) (r .progress) (r .written)
+        (after (answer (worldIn (now (hub .entry)) (now (region .entry)) words bytes) (requestOf (kindOf (now (fields .entry)))
+        (now (fields .entry)))))) ⌝ }
 {
     let kind = fields[0];
     if kind == 0 {

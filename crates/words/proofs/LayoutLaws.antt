@@ -22,7 +22,8 @@ use Rattle.device.specs.Reset.{resetPeer, resetEntry}
 use Rattle.device.specs.SetUp.{accepted, freshHub}
 use Rattle.device.specs.Sizes.{maxPeers, maxVectors}
 use Rattle.device.specs.World.{Hub, Slot, zeroSlot, zeroEntry, zeroHub, resetSlot, slotAt, entryAt, withSlot, withPeer, withEntry}
-use Rattle.words.specs.Layout.{hubWords, word, settingsOf, peerStart, peerOf, entryStart, entryOf, slotOf, decoded, fits, hubOf, Known, KnownVector, Storable}
+use Rattle.words.specs.Layout.{hubWords, word, settingsOf, peerStart, peerOf, entryStart, entryOf}
+use Rattle.words.specs.Layout.{slotOf, decoded, fits, hubOf, Known, KnownVector, Storable}
 use Rattle.words.specs.Parts.{settingsWords, peerFrom, entryFrom, Copied, Filled, Set}
 use Rattle.words.proofs.IndexLaws.{EntryPlace, entries-small, row-below, entry-place, entry-apart}
 use Rattle.words.proofs.PartLaws.{copied-at}

@@ -55,7 +55,8 @@ pub fn entry_at(hub: &[u32], n: usize, m: usize, i: usize, v: usize) -> Entry
 
 // The same as `put_entry` with the place of the peer's first entry and the size of a column in hand, so that a loop finds them once.
 pub fn put_entry_from(hub: &mut [u32], start: usize, column: usize, i: usize, v: usize, e: Entry)
-    requires places { ⌜ (start ≡ entryStart (hubOf (now hub) .settings .peers) (hubOf (now hub) .settings .vectors) 0 i 0) × (column ≡ hubOf (now hub) .settings .peers * hubOf (now hub) .settings .vectors) ⌝ }
+    requires places { ⌜ (start ≡ entryStart (hubOf (now hub) .settings .peers) (hubOf (now hub) .settings .vectors) 0 i 0) ×
+        (column ≡ hubOf (now hub) .settings .peers * hubOf (now hub) .settings .vectors) ⌝ }
     requires known { ⌜ Known (now hub) i ⌝ }
     requires vector { ⌜ KnownVector (now hub) v ⌝ }
     ensures { λ r. ⌜ hubOf (now (hub .exit)) ≡ withSlot (hubOf (now (hub .entry))) i (withEntry (slotAt (hubOf (now (hub .entry))) i) v e) ⌝ }

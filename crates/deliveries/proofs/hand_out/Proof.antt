@@ -1,7 +1,8 @@
--- `deliveries::hand_out` meets its contract: a walk of its MIR, by hand. The hub's numbers are read once. Each turn has `sent_in` make one record and writes it; the table
--- is closed between the turns, and holds the first i records of the list, then what it had (`HandedOut.antt`'s `filled`). The local
--- array of targets is taken apart before the loop, so that each turn reads one of its elements, and put together after it.
--- All that the proof knows of `counts_of` and `sent_in` is that they meet their contracts.
+-- `deliveries::hand_out` meets its contract: a walk of its MIR, by hand. The hub's numbers are read once. Each turn has
+-- `sent_in` make one record and writes it; the table is closed between the turns, and holds the first i records of the list,
+-- then what it had (`HandedOut.antt`'s `filled`). The local array of targets is taken apart before the loop, so that each turn
+-- reads one of its elements, and put together after it. All that the proof knows of `counts_of` and `sent_in` is that they meet
+-- their contracts.
 use Prim.Native.Nat.{ℕ, _+_, _*_, _-_, _≤_, _<_, _^_}
 use mathlib.Core.Bool.{Bool, true, false}
 use mathlib.Core.List.{List, [], _∷_, map}
@@ -24,10 +25,13 @@ use ghost.Atoms.{Atoms, sem}
 use contract.Monad.{Fun}
 use contract.Running.{givenOf, tables, tablesOf}
 use sound.WpLaws.{fmOf, WpFn-mono}
-use types.Kit.{Given, Item, Sq, ‵, raw, given, _⊛_, ⋆, anyQ, atRet, runs, _$_, _∵_, !, qed, by, move, keep, use0, use1, use2, drop, split, join, learn, rewrite, fsplit, fjoin, fpick, fpack, feqI, suffices, frame, done}
+use types.Kit.{Given, Item, Sq, ‵, raw, given, _⊛_, ⋆, anyQ, atRet, runs, _$_, _∵_, !, qed, by, move, keep, use0, use1, use2}
+use types.Kit.{drop, split, join, learn, rewrite, fsplit, fjoin, fpick, fpack, feqI, suffices, frame, done}
 use types.Part.{whole, sub, look-in}
 use types.Share.{arr-parts}
-use types.Run.{look, store, store-raw, init, forget, stop, hop, fld, from, load, lit, of-opd, addr, bin, and-then, no-more, assigns, assigns-last, land, stays, leaves-loop, first, blocks, loops, again, Below, returns, enter, alloc1, alloc0, params1, pass1, pass0, free1, free0, exec}
+use types.Run.{look, store, store-raw, init, forget, stop, hop, fld, from, load, lit, of-opd, addr, bin}
+use types.Run.{and-then, no-more, assigns, assigns-last, land, stays, leaves-loop, first, blocks, loops, again}
+use types.Run.{Below, returns, enter, alloc1, alloc0, params1, pass1, pass0, free1, free0, exec}
 use borrow.Author.Tests.{ltb-true, ltb-false, lt-ltb, le-ltb}
 use denote.Array.{Array, array-vals, array-tells, array-lawful, array-makes}
 use denote.ArrayMemory.{array-apart, array-whole}
@@ -51,7 +55,8 @@ use denote.Triple.Entry.{Args, onEntry}
 use denote.Triple.Spec.{Meets, tripleOf}
 use denote.Triple.Statement.{Contract, Triple}
 use denote.Triple.Table.{entered, cited}
-use denote.Triple.Walked.{says, needs, Stays, stay-slice, stay-none-slice, stay-none, walkOf, Walks, ends-at, walked, goes-slice, goes-none-slice, goes-none, walk-meets}
+use denote.Triple.Walked.{says, needs, Stays, stay-slice, stay-none-slice, stay-none, walkOf, Walks}
+use denote.Triple.Walked.{ends-at, walked, goes-slice, goes-none-slice, goes-none, walk-meets}
 use Rattle.device.proofs.Delivery as D
 use Rattle.device.proofs.Delivery.Laws as D′
 use Rattle.device.proofs.Vector as Vec

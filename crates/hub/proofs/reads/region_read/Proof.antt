@@ -65,12 +65,17 @@ cast-t16 c = search needs
 returns-3 : tie.Need-returns-3
 unfolding effect
 returns-3 c =
-    let a = c .before .before .before .before .before .before .before .before .before .before .args in
+    let c5 = c .before .before .before .before .before in
+    let c6 = c5 .before in
+    let c7 = c6 .before in
+    let c8 = c7 .before in
+    let c10 = c8 .before .before in
+    let a = c10 .args in
     let registers : a .table ≡ false = not-true (a .table) (c .before .if3 .taken) in
     answers-accepted (a .hub .now) _ _ (c .read .result)
     (region-read-checked (a .hub .now) (a .id) (a .table) (a .offset) (a .width) _ _
-    (c .before .before .before .before .before .before .before .before .nothing-lent .ensures) (c .before .before .before .before .before .before .before .space-refusal .ensures .0))
-    (c .before .before .before .before .before .before .if1 .left) (λ region. rw (registers, c .read .ensures .0, c .before .before .settings .ensures, c .before .before .before .before .before .peer .ensures))
+    (c8 .nothing-lent .ensures) (c7 .space-refusal .ensures .0))
+    (c6 .if1 .left) (λ region. rw (registers, c .read .ensures .0, c .before .before .settings .ensures, c5 .peer .ensures))
 
 in-table-requires : tie.Need-in-table-requires
 in-table-requires c κs = search needs
@@ -78,20 +83,30 @@ in-table-requires c κs = search needs
 returns-4 : tie.Need-returns-4
 unfolding effect msixRead tableWord
 returns-4 c =
-    let a = c .before .before .before .before .before .before .before .before .before .before .before .args in
+    let c4 = c .before .before .before .before in
+    let c5 = c4 .before in
+    let c6 = c5 .before in
+    let c7 = c6 .before in
+    let c8 = c7 .before in
+    let c9 = c8 .before in
+    let c11 = c9 .before .before in
+    let a = c11 .args in
     let table : a .table ≡ true = not-false (a .table) (c .before .before .if3 .left) in
-    let on = rw (c .before .before .before .before .before .memory-on .ensures, c .before .before .before .before .before .before .peer .ensures) at (not-false (c .before .before .before .before .before .memory-on .result) (c .before .before .before .before .if2 .left)) in
+    let on = rw (c5 .memory-on .ensures, c6 .peer .ensures) at (not-false (c5 .memory-on .result) (c4 .if2 .left)) in
     let out = rw (c .before .in-table .ensures, c .before .before .before .settings .ensures) at (not-true (c .before .in-table .result) (c .if4 .taken)) in
     answers-accepted (a .hub .now) _ _ 0
     (region-read-checked (a .hub .now) (a .id) (a .table) (a .offset) (a .width) _ _
-    (c .before .before .before .before .before .before .before .before .before .nothing-lent .ensures) (c .before .before .before .before .before .before .before .before .space-refusal .ensures .0))
-    (c .before .before .before .before .before .before .before .if1 .left) (λ region. rw (table, on, out))
+    (c9 .nothing-lent .ensures) (c8 .space-refusal .ensures .0))
+    (c7 .if1 .left) (λ region. rw (table, on, out))
 
 entry-requires : tie.Need-entry-requires
 unfolding inTable
 entry-requires c κs =
-    let a = c .before .before .before .before .before .before .before .before .before .before .before .args in
-    let f = c .before .before .before .before .before .before .before .before .space-refusal .ensures .1 .0 (c .before .before .before .before .before .before .before .if1 .left) in
+    let c7 = c .before .before .before .before .before .before .before in
+    let c8 = c7 .before in
+    let c11 = c8 .before .before .before in
+    let a = c11 .args in
+    let f = c8 .space-refusal .ensures .1 .0 (c7 .if1 .left) in
     let inside = rw (c .before .in-table .ensures, c .before .before .before .settings .ensures) at (not-false (c .before .in-table .result) (c .if4 .left)) in
     let v : a .offset / 16 < hubOf (a .hub .now) .settings .vectors = ltb-true _ _ inside in
     (f .known, omega arith)
@@ -102,14 +117,24 @@ word-requires c κs = search needs
 returns-5 : tie.Need-returns-5
 unfolding effect msixRead tableWord
 returns-5 c =
-    let a = c .before .before .before .before .before .before .before .before .before .before .before .before .before .args in
-    let table : a .table ≡ true = not-false (a .table) (c .before .before .before .before .if3 .left) in
-    let on = rw (c .before .before .before .before .before .before .before .memory-on .ensures, c .before .before .before .before .before .before .before .before .peer .ensures) at (not-false (c .before .before .before .before .before .before .before .memory-on .result) (c .before .before .before .before .before .before .if2 .left)) in
-    let inside = rw (c .before .before .before .in-table .ensures, c .before .before .before .before .before .settings .ensures) at (not-false (c .before .before .before .in-table .result) (c .before .before .if4 .left)) in
+    let c4 = c .before .before .before .before in
+    let c5 = c4 .before in
+    let c6 = c5 .before in
+    let c7 = c6 .before in
+    let c8 = c7 .before in
+    let c9 = c8 .before in
+    let c10 = c9 .before in
+    let c11 = c10 .before in
+    let c13 = c11 .before .before in
+    let a = c13 .args in
+    let table : a .table ≡ true = not-false (a .table) (c4 .if3 .left) in
+    let on = rw (c7 .memory-on .ensures, c8 .peer .ensures) at (not-false (c7 .memory-on .result) (c6 .if2 .left)) in
+    let inside = rw (c .before .before .before .in-table .ensures, c5 .settings .ensures)
+    at (not-false (c .before .before .before .in-table .result) (c .before .before .if4 .left)) in
     answers-accepted (a .hub .now) _ _ (c .word .result)
     (region-read-checked (a .hub .now) (a .id) (a .table) (a .offset) (a .width) _ _
-    (c .before .before .before .before .before .before .before .before .before .before .before .nothing-lent .ensures) (c .before .before .before .before .before .before .before .before .before .before .space-refusal .ensures .0))
-    (c .before .before .before .before .before .before .before .before .before .if1 .left) (λ region. rw (table, on, inside, c .word .ensures, c .before .entry .ensures))
+    (c11 .nothing-lent .ensures) (c10 .space-refusal .ensures .0))
+    (c9 .if1 .left) (λ region. rw (table, on, inside, c .word .ensures, c .before .entry .ensures))
 
 pub region-read-spec : {M : Type 1} → statement M
 region-read-spec =
