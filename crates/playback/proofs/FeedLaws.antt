@@ -8,11 +8,12 @@ use native.Mathlib.Omega.{arith}
 use lib.Dec.{leb, ltb}
 use lib.ListN.{length, take, drop, getD, length-append, length-take, length-drop, drop-of-length-le}
 use lib.Seq.{take-suc, drop-cons}
-use borrow.Author.Tests.{lt-ltb, le-ltb, leb-false, ltb-false}
+use borrow.Author.Tests.{lt-ltb, le-ltb, leb-false, ltb-false, leb-true, ltb-true}
 use borrow.Rule.Slice.PartMut.{putMid}
 use Rattle.common.specs.Streams.{fedTo, fedAll}
 use Rattle.playback.proofs.OverLaws.{length-over, nothing-over, over-then}
 use Rattle.common.proofs.StreamLaws.{fed-append}
+use Rattle.common.proofs.TestLaws.{and-left, and-right}
 use Rattle.playback.specs.declared.Progress.{Progress}
 use Rattle.playback.specs.Answers.{longest}
 use Rattle.playback.specs.Player.{Player, fed}
@@ -55,9 +56,25 @@ unfolding takenWithin
 taken-full room p [] h = refl
 taken-full room p (b ∷ bs) h = rw (lt-ltb room longest h)
 
+-- what holds where a turn of the loop begins: there is a byte to feed, and room for its answer
+pub record Turn (piece out₀ out : List ℕ) (i at : ℕ) : Type 0 where
+  pub byte : i < length piece
+  pub room : at + longest ≤ length out₀
+  pub same : length out ≡ length out₀
+
 module _ (p₀ : Player) (hub region held piece out₀ out : List ℕ) (p : Progress) (i at : ℕ) (s : FedSoFar p₀ hub region held piece out₀ out p i at) where
   pub same-room : length out ≡ length out₀
   same-room = ap length (s .goes .written .bytes) ∙ length-over _ out₀ (rw (← s .goes .written .count) (s .goes .written .fits))
+
+  pub turn-begins : (last : ℕ) → last ≡ longest → longest ≤ length out₀ →
+      (ltb i (length piece) && leb at (length out₀ - last)) ≡ true → Turn piece out₀ out i at
+  turn-begins last long room e =
+      let fits : at ≤ length out₀ - last = leb-true _ _ (and-right (ltb i (length piece)) (leb at (length out₀ - last)) e) in
+      record {
+        byte = ltb-true _ _ (and-left (ltb i (length piece)) (leb at (length out₀ - last)) e);
+        room = omega arith;
+        same = same-room;
+      }
 
   pub fed-more : (hubAfter regionAfter heldAfter rest : List ℕ) (next : Progress) (n : ℕ) → i < length piece → longest ≤ length out₀ - at
       → Goes hubAfter regionAfter heldAfter (take (length out - at) (drop at out)) rest next n (fed (playerIn hub region held p) (getD piece i 0))

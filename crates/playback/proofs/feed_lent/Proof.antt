@@ -7,7 +7,7 @@ use lib.ListN.{length, take, drop, length-take, length-drop}
 use borrow.Author.Needs.{needs}
 use borrow.Author.Tests.{ltb-true, leb-true}
 use Rattle.common.proofs.TestLaws.{and-left, and-right}
-use Rattle.playback.proofs.FeedLaws.{FedSoFar, fed-none, same-room, fed-more, fed-end}
+use Rattle.playback.proofs.FeedLaws.{FedSoFar, fed-none, same-room, turn-begins, fed-more, fed-end}
 use Rattle.playback.specs.Answers.{longest}
 use Rattle.playback.specs.Promises.{playerIn}
 use Rattle.playback.proofs.feed_lent.Statement.{statement}
@@ -35,8 +35,8 @@ shared-slice-read-take-byte c =
     let c5 = c4 .before in
     let c6 = c5 .before in
     let c12 = c6 .before .before .before .before .before .before in
-    ltb-true _ _ (and-left (ltb (c5 .loop .i) (length (c12 .args .piece .now)))
-    (leb (c5 .loop .at) (length (c12 .args .out .now) - c6 .longest-answer .result)) (c4 .loop-test .taken))
+    let t = turn-begins _ _ _ _ _ _ _ _ _ _ (c5 .loop .inv) _ (c6 .longest-answer .ensures) (c12 .pre .1) (c4 .loop-test .taken) in
+    t .byte
 
 sub-take-byte : tie.Need-sub-take-byte Inv-loop μ-loop
 sub-take-byte c =
@@ -44,18 +44,7 @@ sub-take-byte c =
     let c5 = c4 .before in
     let c6 = c5 .before in
     let c12 = c6 .before .before .before .before .before .before in
-    let l = c5 .loop .inv in
-    let i : c5 .loop .i < length (c12 .args .piece .now) =
-    ltb-true _ _ (and-left (ltb (c5 .loop .i) (length (c12 .args .piece .now)))
-    (leb (c5 .loop .at) (length (c12 .args .out .now) - c6 .longest-answer .result)) (c4 .loop-test .taken)) in
-    let at : c5 .loop .at ≤ length (c12 .args .out .now) - c6 .longest-answer .result =
-    leb-true _ _ (and-right (ltb (c5 .loop .i) (length (c12 .args .piece .now)))
-    (leb (c5 .loop .at) (length (c12 .args .out .now) - c6 .longest-answer .result)) (c4 .loop-test .taken)) in
-    let same = same-room (playerIn (c12 .args .hub .now) (c12 .args .region .now) (c12 .args .held .now) (c12 .args .progress))
-    (c5 .loop .hub) (c5 .loop .region) (c5 .loop .held) (c12 .args .piece .now) (c12 .args .out .now) (c5 .loop .out)
-    (c5 .loop .p) (c5 .loop .i) (c5 .loop .at) l in
-    let long = c6 .longest-answer .ensures in
-    let room = c12 .pre .1 in
+    let t = turn-begins _ _ _ _ _ _ _ _ _ _ (c5 .loop .inv) _ (c6 .longest-answer .ensures) (c12 .pre .1) (c4 .loop-test .taken) in
     omega arith
 
 part-take-byte-start : tie.Need-part-take-byte-start Inv-loop μ-loop
@@ -64,18 +53,7 @@ part-take-byte-start c =
     let c5 = c4 .before in
     let c6 = c5 .before in
     let c12 = c6 .before .before .before .before .before .before in
-    let l = c5 .loop .inv in
-    let i : c5 .loop .i < length (c12 .args .piece .now) =
-    ltb-true _ _ (and-left (ltb (c5 .loop .i) (length (c12 .args .piece .now)))
-    (leb (c5 .loop .at) (length (c12 .args .out .now) - c6 .longest-answer .result)) (c4 .loop-test .taken)) in
-    let at : c5 .loop .at ≤ length (c12 .args .out .now) - c6 .longest-answer .result =
-    leb-true _ _ (and-right (ltb (c5 .loop .i) (length (c12 .args .piece .now)))
-    (leb (c5 .loop .at) (length (c12 .args .out .now) - c6 .longest-answer .result)) (c4 .loop-test .taken)) in
-    let same = same-room (playerIn (c12 .args .hub .now) (c12 .args .region .now) (c12 .args .held .now) (c12 .args .progress))
-    (c5 .loop .hub) (c5 .loop .region) (c5 .loop .held) (c12 .args .piece .now) (c12 .args .out .now) (c5 .loop .out)
-    (c5 .loop .p) (c5 .loop .i) (c5 .loop .at) l in
-    let long = c6 .longest-answer .ensures in
-    let room = c12 .pre .1 in
+    let t = turn-begins _ _ _ _ _ _ _ _ _ _ (c5 .loop .inv) _ (c6 .longest-answer .ensures) (c12 .pre .1) (c4 .loop-test .taken) in
     omega arith
 
 part-take-byte-end : tie.Need-part-take-byte-end Inv-loop μ-loop
@@ -87,19 +65,8 @@ take-byte-requires c κs =
     let c6 = c5 .before in
     let c7 = c6 .before in
     let c13 = c7 .before .before .before .before .before .before in
-    let l = c6 .loop .inv in
-    let i : c6 .loop .i < length (c13 .args .piece .now) =
-    ltb-true _ _ (and-left (ltb (c6 .loop .i) (length (c13 .args .piece .now)))
-    (leb (c6 .loop .at) (length (c13 .args .out .now) - c7 .longest-answer .result)) (c5 .loop-test .taken)) in
-    let at : c6 .loop .at ≤ length (c13 .args .out .now) - c7 .longest-answer .result =
-    leb-true _ _ (and-right (ltb (c6 .loop .i) (length (c13 .args .piece .now)))
-    (leb (c6 .loop .at) (length (c13 .args .out .now) - c7 .longest-answer .result)) (c5 .loop-test .taken)) in
-    let same = same-room (playerIn (c13 .args .hub .now) (c13 .args .region .now) (c13 .args .held .now) (c13 .args .progress))
-    (c6 .loop .hub) (c6 .loop .region) (c6 .loop .held) (c13 .args .piece .now) (c13 .args .out .now) (c6 .loop .out)
-    (c6 .loop .p) (c6 .loop .i) (c6 .loop .at) l in
-    let long = c7 .longest-answer .ensures in
-    let room = c13 .pre .1 in
-    (l .goes .lent, simp (length-take, length-drop) (omega arith))
+    let t = turn-begins _ _ _ _ _ _ _ _ _ _ (c6 .loop .inv) _ (c7 .longest-answer .ensures) (c13 .pre .1) (c5 .loop-test .taken) in
+    (c6 .loop .inv .goes .lent, simp (length-take, length-drop) (omega arith))
 
 add-at : tie.Need-add-at Inv-loop μ-loop
 add-at c =
@@ -108,21 +75,11 @@ add-at c =
     let c17 = c16 .before in
     let c18 = c17 .before in
     let c24 = c18 .before .before .before .before .before .before in
-    let l = c17 .loop .inv in
-    let i : c17 .loop .i < length (c24 .args .piece .now) =
-    ltb-true _ _ (and-left (ltb (c17 .loop .i) (length (c24 .args .piece .now)))
-    (leb (c17 .loop .at) (length (c24 .args .out .now) - c18 .longest-answer .result)) (c16 .loop-test .taken)) in
-    let at : c17 .loop .at ≤ length (c24 .args .out .now) - c18 .longest-answer .result =
-    leb-true _ _ (and-right (ltb (c17 .loop .i) (length (c24 .args .piece .now)))
-    (leb (c17 .loop .at) (length (c24 .args .out .now) - c18 .longest-answer .result)) (c16 .loop-test .taken)) in
-    let same = same-room (playerIn (c24 .args .hub .now) (c24 .args .region .now) (c24 .args .held .now) (c24 .args .progress))
-    (c17 .loop .hub) (c17 .loop .region) (c17 .loop .held) (c24 .args .piece .now) (c24 .args .out .now) (c17 .loop .out)
-    (c17 .loop .p) (c17 .loop .i) (c17 .loop .at) l in
-    let long = c18 .longest-answer .ensures in
-    let room = c24 .pre .1 in
-    let part : length (take (length (c17 .loop .out) - c17 .loop .at) (drop (c17 .loop .at) (c17 .loop .out))) ≤ length
-    (c17 .loop .out) - c17 .loop .at = simp (length-take, length-drop) (omega arith) in
-    omega (arith, part, c10 .take-byte .ensures .written .fits, c24 .good .1 .1 .1 .1 .1 .0)
+    let t = turn-begins _ _ _ _ _ _ _ _ _ _ (c17 .loop .inv) _ (c18 .longest-answer .ensures) (c24 .pre .1) (c16 .loop-test .taken) in
+    let l = c17 .loop in
+    let part : length (take (length (l .out) - l .at) (drop (l .at) (l .out))) ≤ length (l .out) - l .at =
+    simp (length-take, length-drop) (omega arith) in
+    omega (arith, part, t .room, t .same, c10 .take-byte .ensures .written .fits, c24 .good .1 .1 .1 .1 .1 .0)
 
 add-i : tie.Need-add-i Inv-loop μ-loop
 add-i c =
@@ -131,19 +88,8 @@ add-i c =
     let c17 = c16 .before in
     let c18 = c17 .before in
     let c24 = c18 .before .before .before .before .before .before in
-    let l = c17 .loop .inv in
-    let i : c17 .loop .i < length (c24 .args .piece .now) =
-    ltb-true _ _ (and-left (ltb (c17 .loop .i) (length (c24 .args .piece .now)))
-    (leb (c17 .loop .at) (length (c24 .args .out .now) - c18 .longest-answer .result)) (c16 .loop-test .taken)) in
-    let at : c17 .loop .at ≤ length (c24 .args .out .now) - c18 .longest-answer .result =
-    leb-true _ _ (and-right (ltb (c17 .loop .i) (length (c24 .args .piece .now)))
-    (leb (c17 .loop .at) (length (c24 .args .out .now) - c18 .longest-answer .result)) (c16 .loop-test .taken)) in
-    let same = same-room (playerIn (c24 .args .hub .now) (c24 .args .region .now) (c24 .args .held .now) (c24 .args .progress))
-    (c17 .loop .hub) (c17 .loop .region) (c17 .loop .held) (c24 .args .piece .now) (c24 .args .out .now) (c17 .loop .out)
-    (c17 .loop .p) (c17 .loop .i) (c17 .loop .at) l in
-    let long = c18 .longest-answer .ensures in
-    let room = c24 .pre .1 in
-    omega (arith, c24 .good .1 .1 .1 .1 .0 .0)
+    let t = turn-begins _ _ _ _ _ _ _ _ _ _ (c17 .loop .inv) _ (c18 .longest-answer .ensures) (c24 .pre .1) (c16 .loop-test .taken) in
+    omega (arith, t .byte, c24 .good .1 .1 .1 .1 .0 .0)
 
 loop-less : tie.Need-loop-less Inv-loop μ-loop
 loop-less c =
@@ -152,19 +98,8 @@ loop-less c =
     let c17 = c16 .before in
     let c18 = c17 .before in
     let c24 = c18 .before .before .before .before .before .before in
-    let l = c17 .loop .inv in
-    let i : c17 .loop .i < length (c24 .args .piece .now) =
-    ltb-true _ _ (and-left (ltb (c17 .loop .i) (length (c24 .args .piece .now)))
-    (leb (c17 .loop .at) (length (c24 .args .out .now) - c18 .longest-answer .result)) (c16 .loop-test .taken)) in
-    let at : c17 .loop .at ≤ length (c24 .args .out .now) - c18 .longest-answer .result =
-    leb-true _ _ (and-right (ltb (c17 .loop .i) (length (c24 .args .piece .now)))
-    (leb (c17 .loop .at) (length (c24 .args .out .now) - c18 .longest-answer .result)) (c16 .loop-test .taken)) in
-    let same = same-room (playerIn (c24 .args .hub .now) (c24 .args .region .now) (c24 .args .held .now) (c24 .args .progress))
-    (c17 .loop .hub) (c17 .loop .region) (c17 .loop .held) (c24 .args .piece .now) (c24 .args .out .now) (c17 .loop .out)
-    (c17 .loop .p) (c17 .loop .i) (c17 .loop .at) l in
-    let long = c18 .longest-answer .ensures in
-    let room = c24 .pre .1 in
-    omega arith
+    let t = turn-begins _ _ _ _ _ _ _ _ _ _ (c17 .loop .inv) _ (c18 .longest-answer .ensures) (c24 .pre .1) (c16 .loop-test .taken) in
+    omega (arith, t .byte)
 
 loop-again : tie.Need-loop-again Inv-loop μ-loop
 loop-again c =
@@ -173,21 +108,8 @@ loop-again c =
     let c17 = c16 .before in
     let c18 = c17 .before in
     let c24 = c18 .before .before .before .before .before .before in
-    let l = c17 .loop .inv in
-    let i : c17 .loop .i < length (c24 .args .piece .now) =
-    ltb-true _ _ (and-left (ltb (c17 .loop .i) (length (c24 .args .piece .now)))
-    (leb (c17 .loop .at) (length (c24 .args .out .now) - c18 .longest-answer .result)) (c16 .loop-test .taken)) in
-    let at : c17 .loop .at ≤ length (c24 .args .out .now) - c18 .longest-answer .result =
-    leb-true _ _ (and-right (ltb (c17 .loop .i) (length (c24 .args .piece .now)))
-    (leb (c17 .loop .at) (length (c24 .args .out .now) - c18 .longest-answer .result)) (c16 .loop-test .taken)) in
-    let same = same-room (playerIn (c24 .args .hub .now) (c24 .args .region .now) (c24 .args .held .now) (c24 .args .progress))
-    (c17 .loop .hub) (c17 .loop .region) (c17 .loop .held) (c24 .args .piece .now) (c24 .args .out .now) (c17 .loop .out)
-    (c17 .loop .p) (c17 .loop .i) (c17 .loop .at) l in
-    let long = c18 .longest-answer .ensures in
-    let room = c24 .pre .1 in
-    fed-more (playerIn (c24 .args .hub .now) (c24 .args .region .now) (c24 .args .held .now) (c24 .args .progress))
-    (c17 .loop .hub) (c17 .loop .region) (c17 .loop .held) (c24 .args .piece .now) (c24 .args .out .now) (c17 .loop .out)
-    (c17 .loop .p) (c17 .loop .i) (c17 .loop .at) l _ _ _ _ _ _ i (omega arith) (c10 .take-byte .ensures)
+    let t = turn-begins _ _ _ _ _ _ _ _ _ _ (c17 .loop .inv) _ (c18 .longest-answer .ensures) (c24 .pre .1) (c16 .loop-test .taken) in
+    fed-more _ _ _ _ _ _ _ _ _ _ (c17 .loop .inv) _ _ _ _ _ _ (t .byte) (omega (arith, t .room)) (c10 .take-byte .ensures)
 
 same-length : tie.Need-same-length Inv-loop μ-loop
 same-length c = c .before .loop .inv .goes .lent .hubLength ∙ sym (c .before .before .before .before .before .before .before .before .pre .0 .hubLength)
