@@ -1,8 +1,7 @@
 //! What the yardsticks share: the rules over plain numbers.
 
 use ivshmem::{
-    CONFIGURATION_BYTES, Delivery, MAX_PEERS, MAX_VECTORS, MIN_BASE, MSIX_BYTES, PeerId, REGISTER_BYTES, Section,
-    Vector,
+    CONFIGURATION_BYTES, Delivery, MAX_PEERS, MAX_VECTORS, MIN_BASE, MSIX_BYTES, PeerId, REGISTER_BYTES, Vector,
 };
 pub use model::hub::{Entry, Numbers};
 
@@ -93,6 +92,14 @@ fn access(bytes: u64, offset: u64, width: u64) -> Result<(), u32> {
     Ok(())
 }
 
+/// The sections that there are. The wrapper's type also has room for one that it does not know.
+#[derive(Clone, Copy)]
+pub enum Section {
+    StateTable,
+    ReadWrite,
+    Output(PeerId),
+}
+
 /// Checks 6 and 8 for a shared range: the section that it lies in.
 pub fn section(n: &Numbers, offset: u64, length: u64) -> Result<Section, u32> {
     if length == 0 {
@@ -122,7 +129,6 @@ pub fn may_store(section: Section, id: u64) -> bool {
         Section::StateTable => false,
         Section::ReadWrite => true,
         Section::Output(owner) => u64::from(owner.0) == id,
-        _ => unreachable!("the rules have no other section"),
     }
 }
 

@@ -3,13 +3,13 @@
 use std::marker::PhantomData;
 
 use ivshmem::raw::{Counted, Reply, SectionReply};
-use ivshmem::{Delivery, Section, Settings, register};
+use ivshmem::{Delivery, Settings, register};
 
 use model::call::Call;
 use model::subject::Answer;
 
 use crate::device::{Device, Lending, perform_by};
-use crate::rules::{self, MEMORY_SPACE, Numbers, Registers};
+use crate::rules::{self, MEMORY_SPACE, Numbers, Registers, Section};
 use crate::soundness::{Accumulating, EarlyExit, Soundness, Specialised};
 use crate::state::{Form, Plain, State};
 
@@ -268,7 +268,6 @@ fn section_reply(outcome: Result<Section, u32>, id: u64) -> SectionReply {
         Ok(section @ Section::StateTable) => (1, 0, rules::may_store(section, id)),
         Ok(section @ Section::ReadWrite) => (2, 0, rules::may_store(section, id)),
         Ok(section @ Section::Output(owner)) => (3, owner.0.into(), rules::may_store(section, id)),
-        Ok(_) => unreachable!("the rules have no other section"),
     };
     SectionReply { reply: reply(Ok(0)), kind, owner, store: store.into() }
 }
