@@ -53,8 +53,8 @@ extern "C" {
 #define IVSHMEM_VERSION_PATCH 0
 #define IVSHMEM_INTERFACE 2
 
-/* Answers IVSHMEM_INTERFACE. The number stands in the name, and whatever is compiled with this header asks for the name: with
-   an archive of another interface it does not link. */
+/* Answers IVSHMEM_INTERFACE. The number stands in the name, and whatever is compiled with this header asks for the name: a
+   program does not link with an archive of another interface. */
 uint32_t ivshmem_interface_2(void);
 static uint32_t (*const ivshmem_interface_wanted)(void) IVSHMEM_KEPT = ivshmem_interface_2;
 
@@ -235,7 +235,8 @@ ivshmem_counted ivshmem_reset(uint32_t *hub, size_t hub_words, uint8_t *region, 
  * Questions of the host. They change nothing, and their answers are for the host alone.
  */
 
-/* 1 where the words are a sound hub, that is where no call would refuse them with 10; else 0. */
+/* 1 where the words are a sound hub, that is where no call but set-up, which overwrites them, would refuse them with 10; else
+   0. */
 IVSHMEM_MUST_USE
 uint32_t ivshmem_is_sound(const uint32_t *hub, size_t hub_words);
 

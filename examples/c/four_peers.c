@@ -134,6 +134,9 @@ int main(void)
     answered("is peer 3 connected", ivshmem_is_connected(hub, WORDS, 3));
     answered("is peer 4 connected", ivshmem_is_connected(hub, WORDS, 4));
     answered("peer 0 reads vendor and device id", ivshmem_configuration_read(hub, WORDS, 0, IVSHMEM_CONFIGURATION_VENDOR_ID, 4));
+    answered("its protocol type", ivshmem_configuration_read(hub, WORDS, 0, IVSHMEM_CONFIGURATION_REVISION, 4));
+    answered("its subsystem vendor and id",
+             ivshmem_configuration_read(hub, WORDS, 0, IVSHMEM_CONFIGURATION_SUBSYSTEM_VENDOR, 4));
     doorbell_and_state();
     shared_memory();
     delivered("peer 1 is reset", ivshmem_reset(hub, WORDS, region, TOTAL, table, PEERS, 1));

@@ -22,7 +22,7 @@ static bool is_refused(struct host *host, uint32_t number)
     case IVSHMEM_READ_ONLY:
         return true;
     default:
-        host->faults++;
+        __atomic_fetch_add(&host->faults, 1, __ATOMIC_RELAXED);
         return true;
     }
 }
@@ -191,7 +191,8 @@ enum host_rights host_page_rights(struct host *host, uint64_t peer, uint64_t off
 {
     const ivshmem_section section = ivshmem_section_question(host->hub, host->hub_words, peer, offset - offset % PAGE, PAGE);
 
-    if (is_refused(host, section.reply.number))
+    /* Of a kind that this file does not know nothing is mapped. */
+    if (is_refused(host, section.reply.number) || section.kind < IVSHMEM_STATE_TABLE || section.kind > IVSHMEM_OUTPUT)
         return HOST_UNMAPPED;
-    return section.store ? HOST_READ_WRITE : HOST_READ_ONLY;
+    return section.store == 1 ? HOST_READ_WRITE : HOST_READ_ONLY;
 }

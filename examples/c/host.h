@@ -1,5 +1,6 @@
 /* What a hypervisor does with a guest's access to its device: trap handlers over the library, to be copied or linked. Which
-   calls each access becomes, and why, is in docs/WIRING.md. C11, without allocation and without threads of its own.
+   calls each access becomes, and why, is in docs/WIRING.md. host.c is C11, without allocation and without threads of its own; this file
+   may also be included from C++.
 
    Locks: calls that take the hub as const may run at the same time; a call that may change it runs while no other call on it
    does. So trap_read, host_traps, host_page_rights and a trap_write to HOST_SHARED run under a lock held for reading, every
@@ -12,6 +13,10 @@
 
 #include "ivshmem.h"
 
+#ifdef __cplusplus
+extern "C" {
+#endif
+
 /* What a host keeps of one hub. All that is pointed to is the host's own. */
 struct host {
     uint32_t *hub;
@@ -23,8 +28,9 @@ struct host {
     /* Injects one interrupt. It is called for each record, in order, and makes no call on this hub. */
     void (*inject)(void *context, const ivshmem_delivery *delivery);
     void *context;
-    /* Refusals that no guest can cause (10, 2, 11, 3): the host lent the wrong thing, or its memory was damaged. */
-    _Atomic uint64_t faults;
+    /* Refusals that no guest can cause (10, 2, 11, 3): the host lent the wrong thing, or its memory was damaged. Counted in one
+       step, since reads may run at the same time. */
+    uint64_t faults;
 };
 
 enum host_space {
@@ -65,5 +71,9 @@ bool host_moves_traps(uint64_t offset, unsigned width);
 /* How the page of the region that the offset lies in is to be mapped for the peer. */
 enum host_rights { HOST_UNMAPPED, HOST_READ_ONLY, HOST_READ_WRITE };
 enum host_rights host_page_rights(struct host *host, uint64_t peer, uint64_t offset);
+
+#ifdef __cplusplus
+}
+#endif
 
 #endif

@@ -28,7 +28,7 @@ at base s =
       subsystem = s .subsystem;
     }
 
--- 'Base address: multiple of 4096, base + T at most 2^64', and not 'below 100000h'
+-- R10 of the base: a multiple of 4096, base + T at most 2^64, and not below 100000h (R12)
 abbrev pub wellPlaced : Settings → Bool
 wellPlaced s = (eqb (s .base % 4096) 0 && leb 0x100000 (s .base)) && leb (s .base + total s) (2 ^ 64)
 

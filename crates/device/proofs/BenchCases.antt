@@ -1,5 +1,5 @@
--- The fourteen cases marked P of 'On the bench', one table, checked by one theorem about the meaning: for each case what `step`
--- gives and what the rules say. Then the last case, 'Whole list', as C-11 amends it.
+-- Fourteen worked cases of the rules, one table, checked by one theorem about the meaning: for each case what `step`
+-- gives and what the rules say. Then a case of several calls, the whole list, as C-11 amends it.
 use Prim.Native.Nat.{ℕ}
 use mathlib.Core.List.{List, [], _∷_, _++_}
 use mathlib.Core.Path.{_≡_, refl}
@@ -63,11 +63,11 @@ after w who act = does w who act .world
 abbrev answer : World → ℕ → Act → List ℕ
 answer w who act = does w who act .number ∷ does w who act .value ∷ []
 
--- 'Fresh peer, N=4, V=4, protocol 0001h'
+-- Fresh peer, N=4, V=4, protocol 0001h
 abbrev fresh : World
 fresh = after (setUp 4 4 4096 0 0) 0 connect
 
--- 'S=4096, R=0, O=4096, N=2', both connected
+-- S=4096, R=0, O=4096, N=2, both connected
 abbrev pair : World
 pair = after (after (setUp 2 1 4096 0 4096) 0 connect) 1 connect
 
@@ -77,33 +77,33 @@ storing offset n = store offset (replicate n 0)
 
 pub cases : List Case
 cases =
-    -- '4 bytes at 00h give 4106110Ah'
+    -- 4 bytes at 00h give 4106110Ah
     case (answer fresh 0 (configurationRead 0x00 4)) (0 ∷ 0x4106110A ∷ [])
-    -- 'at 08h FF000100h'
+    -- at 08h FF000100h
     ∷ case (answer fresh 0 (configurationRead 0x08 4)) (0 ∷ 0xFF000100 ∷ [])
-    -- 'at 40h 00206009h'
+    -- at 40h 00206009h
     ∷ case (answer fresh 0 (configurationRead 0x40 4)) (0 ∷ 0x00206009 ∷ [])
-    -- 'at 60h 00030011h'
+    -- at 60h 00030011h
     ∷ case (answer fresh 0 (configurationRead 0x60 4)) (0 ∷ 0x00030011 ∷ [])
-    -- 'Write FFFFh at 04h: 4 bytes at 04h read 00100406h'
+    -- Write FFFFh at 04h: 4 bytes at 04h read 00100406h
     ∷ case (answer (after fresh 0 (configurationWrite 0x04 2 0xFFFF)) 0 (configurationRead 0x04 4)) (0 ∷ 0x00100406 ∷ [])
-    -- 'Write FFFFFFFFh at 10h: reads FFFFF000h'
+    -- Write FFFFFFFFh at 10h: reads FFFFF000h
     ∷ case (answer (after fresh 0 (configurationWrite 0x10 4 0xFFFFFFFF)) 0 (configurationRead 0x10 4)) (0 ∷ 0xFFFFF000 ∷ [])
-    -- 'Write FFFFFFFFh at 60h: reads C0030011h'
+    -- Write FFFFFFFFh at 60h: reads C0030011h
     ∷ case (answer (after fresh 0 (configurationWrite 0x60 4 0xFFFFFFFF)) 0 (configurationRead 0x60 4)) (0 ∷ 0xC0030011 ∷ [])
-    -- 'Register read at 04h with Command 0: FFFFFFFFh'
+    -- Register read at 04h with Command 0: FFFFFFFFh
     ∷ case (answer fresh 0 (registerRead 0x04 4)) (0 ∷ 0xFFFFFFFF ∷ [])
-    -- 'with 0002h: 4'
+    -- with 0002h: 4
     ∷ case (answer (after fresh 0 (configurationWrite 0x04 2 0x0002)) 0 (registerRead 0x04 4)) (0 ∷ 4 ∷ [])
-    -- 'Doorbell 00030001h means vector 1 at id 3'
+    -- Doorbell 00030001h means vector 1 at id 3
     ∷ case (rungVector 0x00030001 .0 ∷ rungPeer 0x00030001 .0 ∷ []) (1 ∷ 3 ∷ [])
-    -- 'store by 1 at 8192, length 4096: taken'
+    -- store by 1 at 8192, length 4096: taken
     ∷ case (answer pair 1 (storing 8192 4096)) (0 ∷ 0 ∷ [])
-    -- 'The same by 0: 9'
+    -- The same by 0: 9
     ∷ case (answer pair 0 (storing 8192 4096)) (9 ∷ 0 ∷ [])
-    -- 'Offset 8191, length 2: 8'
+    -- Offset 8191, length 2: 8
     ∷ case (answer pair 1 (storing 8191 2)) (8 ∷ 0 ∷ [])
-    -- 'Length 0: 6'
+    -- Length 0: 6
     ∷ case (answer pair 1 (storing 8192 0)) (6 ∷ 0 ∷ [])
     ∷ []
 
@@ -122,7 +122,7 @@ unfolding cases bytes number setByte first every below Configuration.configurati
 bench =
     (refl, (refl, (refl, (refl, (refl, (refl, (refl, (refl, (refl, (refl, (refl, (refl, (refl, (refl, tt))))))))))))))
 
--- 'all switches on at 0 and 3, entry 0 there address FEE00000h'
+-- all switches on at 0 and 3, entry 0 there address FEE00000h
 abbrev listens : ℕ → ℕ → List Call
 listens who payload =
     call who connect
@@ -134,7 +134,7 @@ listens who payload =
     ∷ call who (registerWrite 4 0x08 4 1)
     ∷ []
 
--- 'N=4, V=2; 0, 1, 3 connected .. data 40h and 43h, peer 3 alone one-shot; peer 1 has Command bit 1 on'
+-- N=4, V=2; 0, 1 and 3 connected, data 40h and 43h, peer 3 alone one-shot; peer 1 has Command bit 1 on
 abbrev four : World
 four =
     History.after (setUp 4 2 4096 0 0)
@@ -142,7 +142,7 @@ four =
     ++ (listens 3 0x43
     ++ (call 3 (configurationWrite 0x43 1 0x01) ∷ call 1 connect ∷ call 1 (configurationWrite 0x04 2 0x0002) ∷ [])))
 
--- 'Peer 1 stores State 5'
+-- Peer 1 stores State 5
 abbrev five : Act
 five = registerWrite 4 0x10 4 5
 
@@ -151,16 +151,16 @@ abbrev pub parts : List Delivery → List ℕ
 parts [] = []
 parts (d ∷ ds) = d .target .0 ∷ d .vector .0 ∷ d .address ∷ d .payload ∷ parts ds
 
--- 'Whole list'
+-- Whole list
 abbrev list : Outcome → Outcome → List Case
 list first second =
-    -- '(0, 0, FEE00000h, 40h), (3, 0, FEE00000h, 43h)'
+    -- (0, 0, FEE00000h, 40h), (3, 0, FEE00000h, 43h)
     case (parts (first .deliveries)) (0 ∷ 0 ∷ 0xFEE00000 ∷ 0x40 ∷ 3 ∷ 0 ∷ 0xFEE00000 ∷ 0x43 ∷ [])
-    -- 'region bytes 4-7 are 05 00 00 00'
+    -- region bytes 4-7 are 05 00 00 00
     ∷ case (take 4 (drop 4 (first .world .region))) (5 ∷ 0 ∷ 0 ∷ 0 ∷ [])
-    -- 'peer 3's Interrupt Control is 0'
+    -- peer 3's Interrupt Control is 0
     ∷ case (answer (first .world) 3 (registerRead 0x08 4)) (0 ∷ 0 ∷ [])
-    -- 'the second store of 5 delivers nothing' (C-11)
+    -- the second store of 5 delivers nothing (C-11)
     ∷ case (second .number ∷ parts (second .deliveries)) (0 ∷ [])
     ∷ []
 

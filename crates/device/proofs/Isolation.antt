@@ -1,4 +1,4 @@
--- Demand 3, isolation: what a peer observes of a history, and its view at the end, are the replay of its window, so two histories
+-- Isolation (R72): what a peer observes of a history, and its view at the end, are the replay of its window, so two histories
 -- with equal windows are alike to it.
 use Prim.Native.Nat.{ℕ, _<_}
 use mathlib.Core.Bool.{true, false, cond}

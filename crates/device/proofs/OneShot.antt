@@ -146,7 +146,7 @@ module _ (s : Settings) (w : World) (f : Fit s w) (b : ℕ) (before : oneShot b 
           subst (λ (k : ℕ). refusal w (call k (c .act)) ≡ 0 → oneShot b (step w (call k (c .act)) .world) ≡ true → Balanced b w (call k (c .act))) (sym e)
           (own-call (c .act)) r later
 
-  -- 'and isn't reset' follows: a reset or a disconnect of the peer turns one-shot off
+  -- that the peer isn't reset follows: a reset or a disconnect of the peer turns one-shot off
   restart-ends : (a : Act) → refusal w (call b a) ≡ 0
       → First (λ new. bit 0 (new .peer .privileged) ≡ false) (slotAt (w .hub) b) (effectIn w (call b a) .operations)
       → oneShot b (step w (call b a) .world) ≡ false

@@ -1,4 +1,4 @@
--- The cases of 'Numbers accepted at set-up', with the bounds of C-12 and C-16, one table, checked by one theorem: what a set-up
+-- The cases of R10 to R12, with the bounds of C-12 and C-16, one table, checked by one theorem: what a set-up
 -- answers where N, V, S or the base is at a bound, or next to it. So the bounds themselves are held to the rules, and not only the
 -- code to the bounds.
 use Prim.Native.Nat.{ℕ, _-_, _^_}
@@ -33,14 +33,14 @@ placed t base says = record { gives = setUpRefusal true (numbers 2 1 t base) (re
 
 pub cases : List Case
 cases =
-    -- 'N goes to 2 to 64', 'N = 65 .. refused with 1', 9 accepted now
+    -- N: 2 and 64 are taken, 1 and 65 refused with 1; 9 is accepted since C-12
     case 1 1 4096 1
     ∷ case 2 1 4096 0
     ∷ case 8 1 4096 0
     ∷ case 9 1 4096 0
     ∷ case 64 1 4096 0
     ∷ case 65 1 4096 1
-    -- 'V to 1 to 16', 'V = 17 .. refused with 1', 5 accepted now
+    -- V: 1 and 16 are taken, 0 and 17 refused with 1; 5 is accepted since C-12
     ∷ case 2 0 4096 1
     ∷ case 2 1 4096 0
     ∷ case 2 4 4096 0
@@ -49,16 +49,16 @@ cases =
     ∷ case 2 17 4096 1
     -- both at once
     ∷ case 64 16 4096 0
-    -- 'S = 0 or 4100 refused, 4096 taken'
+    -- S = 0 or 4100 refused, 4096 taken
     ∷ case 2 1 0 1
     ∷ case 2 1 4100 1
-    -- 'refuses a base below 100000h with 1', also where the region ends there or beyond; 'exactly 100000h is taken'
+    -- a base below 100000h is refused with 1, also where the region ends there or beyond; 100000h itself is taken
     ∷ placed 4096 0 1
     ∷ placed 4096 0xFF000 1
     ∷ placed 8192 0xFF000 1
     ∷ placed 4096 0x100000 0
     ∷ placed 4096 0x101000 0
-    -- 'base + T at most 2^64'
+    -- base + T at most 2^64
     ∷ placed 4096 (2 ^ 64 - 4096) 0
     ∷ placed 8192 (2 ^ 64 - 4096) 1
     -- what is lent: 1 whatever the words, then 10, then 2

@@ -1,6 +1,5 @@
--- Hubs that are sound and hubs that are not, two tables, each checked by one theorem: one hub for each field and each clause of 'the
--- set-up numbers would be accepted, bits that can't be written hold their fixed values, and unconnected or unused slots and vectors
--- hold reset values'. So soundness itself is held to the rules, and not only the code to it. (Unused slots and vectors there are none.)
+-- Hubs that are sound and hubs that are not, two tables, each checked by one theorem: one hub for each field and each clause of
+-- R33 to R35. So soundness itself is held to the rules, and not only the code to it. (Unused slots and vectors there are none.)
 use Prim.Native.Nat.{ℕ, _-_, _^_}
 use mathlib.Core.Bool.{true, not}
 use mathlib.Core.List.{List, [], _∷_, _++_, map}
@@ -73,7 +72,7 @@ soundHubs =
     ∷ hub (numbers 2 2 4096 0 0 0x100000 0 0 0) present absent
     ∷ []
 
--- 'the set-up numbers would be accepted'
+-- R33: set-up numbers that would not be accepted
 pub unaccepted : List Hub
 unaccepted =
     map (λ s. hub s present absent)
@@ -95,7 +94,7 @@ unaccepted =
     ∷ numbers 2 2 4096 0 0 0x40000000 0 0 (2 ^ 16)
     ∷ [])
 
--- 'bits that can't be written hold their fixed values', of a connected peer, the first or the last
+-- R34: bits that cannot be written, of a connected peer, the first or the last
 pub unfixed : List Hub
 unfixed =
     map (λ p. hub two (slot p fullEntry fullEntry) absent)
@@ -112,7 +111,7 @@ unfixed =
     ++ map (λ e. hub two absent (slot full fullEntry e)) (entry 0xFFFFFFFD 0 0 0 ∷ entry 0xFFFFFFFE 0 0 0 ∷ entry 0 0 0 0x03 ∷ [])
     ++ (hub two (slot full (entry 2 0 0 0) fullEntry) absent ∷ [])
 
--- 'unconnected .. slots .. hold reset values', with bits that could be written
+-- R35: peers that are not connected and not at reset, with bits that could be written
 pub notReset : List Hub
 notReset =
     map (λ p. hub two present (slot p resetEntry resetEntry))

@@ -23,7 +23,7 @@ use Rattle.playback.specs.Cutting.{playedInPieces}
 use Rattle.playback.specs.Log.{field, kindOf, requestOf, recordLength}
 use Rattle.playback.specs.Player.{after, fed, fresh, inside, played, player}
 
--- '00 0200 0100 00100000 0000000000000000 0000000000000000 0000100000000000 0100 0A11 0641'
+-- 00 0200 0100 00100000 0000000000000000 0000000000000000 0000100000000000 0100 0A11 0641
 unfoldable pub setUp : List ℕ
 setUp =
     0x00 ∷ 0x02 ∷ 0x00 ∷ 0x01 ∷ 0x00 ∷ 0x00 ∷ 0x10 ∷ 0x00 ∷ 0x00
@@ -36,7 +36,7 @@ abbrev numbers : Settings
 numbers =
     record { peers = 2; vectors = 1; table = 4096; common = 0; output = 0; base = 0x100000; protocol = 1; vendor = 0x110A; subsystem = 0x4106 }
 
--- '01 0000', '06 0000 0400'
+-- 01 0000, then 06 0000 0400
 unfoldable pub joins : List ℕ
 joins = 0x01 ∷ 0x00 ∷ 0x00 ∷ []
 
@@ -67,7 +67,7 @@ unfolding connected answering asks bytes number field kindOf requestOf answer re
     slotSound peerSound entrySound peerFixed peerReset entryFixed entryReset
 third-answer = refl
 
--- 'gives 81 81 82 FFFFFFFF'
+-- 81, 81, 82 FFFFFFFF
 pub the-case : played (joined (setUp ∷ joins ∷ asks ∷ [])) ≡ 0x81 ∷ 0x81 ∷ 0x82 ∷ 0xFF ∷ 0xFF ∷ 0xFF ∷ 0xFF ∷ []
 unfolding setUp joins asks kindOf recordLength fedPieces playedInPieces inside
 the-case =

@@ -142,7 +142,7 @@ pub unsafe fn set_up_at(hub: &mut [u32], region: *mut [u8], settings: &Settings)
     unsafe { ivshmem_set_up_hub(hub.as_mut_ptr(), hub.len(), region.cast(), region.len(), *settings) }
 }
 
-/// 1 where `hub` is a sound hub, that is where no call would refuse it with 10; else 0.
+/// 1 where `hub` is a sound hub, that is where no call but set-up, which overwrites it, would refuse it with 10; else 0.
 #[must_use]
 pub fn is_sound(hub: &[u32]) -> u32 {
     // SAFETY: the slice is lent for the whole call and only read.

@@ -79,7 +79,8 @@ impl<'a> Hub<'a> {
         Hub { words: self.words }
     }
 
-    /// Whether the words are a sound hub, that is whether no call refuses them with [`Refusal::UnsoundHub`].
+    /// Whether the words are a sound hub, that is whether no call but set-up, which overwrites them, refuses them with
+    /// [`Refusal::UnsoundHub`].
     #[must_use]
     pub fn is_sound(&self) -> bool {
         raw::is_sound(self.words) == 1

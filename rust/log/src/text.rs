@@ -165,7 +165,7 @@ pub(crate) fn set_up_details(settings: &Settings) -> [String; 2] {
     let [protocol, vendor, subsystem_id] = numbers;
     [
         format!("State Table {state_table}, R/W {read_write}, outputs {output}, base {}", Hex(settings.base)),
-        format!("protocol {protocol}, subsystem vendor {vendor}, subsystem {subsystem_id}"),
+        format!("protocol {protocol}, subsystem vendor {vendor}, subsystem id {subsystem_id}"),
     ]
 }
 

@@ -409,7 +409,7 @@ fn set_ups_that_are_refused() {
     assert_eq!(
         log.notes()[2].call,
         "set up 2 peers, 1 vector each, State Table 4096, R/W 4096, outputs 4096, base 100000h, protocol 1, subsystem \
-         vendor 110Ah, subsystem 4106h"
+         vendor 110Ah, subsystem id 4106h"
     );
     assert_eq!(played(&log.into_writer()), [0x80, 1, 0x80, 10, 0x80, 10, 0x80, 10, 0x80, 10]);
 }

@@ -68,7 +68,7 @@ const LOG: &str = "
 
 const WORDS: &str = "       0  set up 4 peers, 2 vectors each: done
             State Table 4096, R/W 4096, outputs 4096, base 100000h
-            protocol 1, subsystem vendor 110Ah, subsystem 4106h
+            protocol 1, subsystem vendor 110Ah, subsystem id 4106h
       39  connect peer 0: done
       42  connect peer 1: done
       45  connect peer 3: done
@@ -102,7 +102,7 @@ const WORDS: &str = "       0  set up 4 peers, 2 vectors each: done
             interrupt to peer 3, vector 0, address 0, data 0
      229  set up 2 peers, 1 vector each: refused, 1 (the sections have 36864 bytes in all, and a log takes 32768)
             State Table 4096, R/W 32768, outputs 0, base 100000h
-            protocol 1, subsystem vendor 110Ah, subsystem 4106h
+            protocol 1, subsystem vendor 110Ah, subsystem id 4106h
      268  reset peer 1: refused, 10 (no hub is set up)
 ";
 
