@@ -34,8 +34,8 @@
 //! - It injects the deliveries of a write in their order, all of them, before the next call on the hub. They are for the host
 //!   alone.
 //! - After a write that [`moves_traps`], and after a connect, reset or disconnect, it asks for [`bars`] and moves its traps.
-//! - It maps the pages of the region with their [`rights`] while the peer is connected, whatever Command holds, and unmaps them
-//!   at a disconnect. Then only stores to read-only pages trap. A host that maps nothing passes every access.
+//! - It maps the pages of the region with their [`rights`] after it has connected the peer, whatever Command holds, and unmaps
+//!   them before it disconnects it. Then only stores to read-only pages trap. A host that maps nothing passes every access.
 //! - It connects a peer before its guest's first access, resets it when the guest reboots or its bus is reset, and disconnects it
 //!   when the guest shuts down, crashes or is unplugged. No guest makes these calls.
 //!
