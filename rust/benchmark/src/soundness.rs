@@ -1,5 +1,5 @@
-//! Check 10 in three forms: with an early exit at the first fault, with all faults gathered, and the same with a copy of the loops
-//! for each number of vectors.
+//! Check 10 in three forms: with an early exit at the first fault, with all faults gathered, and the same with a copy of the
+//! loops for each number of vectors.
 
 use crate::rules::{ADDRESS_BITS, BAR_BITS, COMMAND_BITS, Entry, MESSAGE_BITS, Registers, accepted};
 use crate::state::{PEER_WORDS, Parts, Plain, State};

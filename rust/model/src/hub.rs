@@ -1,17 +1,18 @@
-//! The hub as the rules describe it, written for obviousness. Refusals are the rules' numbers.
+//! The hub as the rules describe it, written for obviousness. Refusals are the rules' numbers, R1 and so on the rules of
+//! docs/RULES.md.
 
 use std::ops::RangeInclusive;
 
 use ivshmem::{Delivery, PeerId, Section, Vector};
 
-/// The most peers, and the most vectors of a peer.
+/// The most peers, and the most vectors of a peer (R11).
 pub const MAX_PEERS: usize = 64;
 /// See [`MAX_PEERS`].
 pub const MAX_VECTORS: usize = 16;
-/// "Set-up refuses a base below 100000h with 1; exactly 100000h is taken."
+/// The lowest base that a set-up takes (R12).
 pub const MIN_BASE: u64 = 0x10_0000;
 
-/// "Numbers accepted at set-up": all of them, wide enough for anything that memory can hold.
+/// The numbers of a set-up (R10), wide enough for anything that memory can hold.
 #[derive(Clone, Copy, Debug, PartialEq, Eq)]
 pub struct Numbers {
     pub peers: u64,
@@ -45,7 +46,7 @@ impl From<&ivshmem::Settings> for Numbers {
 }
 
 impl Numbers {
-    /// What stands in words that are no hub.
+    /// What stands in words that are no hub (R16).
     pub const ZERO: Numbers = Numbers {
         peers: 0,
         vectors: 0,
@@ -58,14 +59,14 @@ impl Numbers {
         subsystem_id: 0,
     };
 
-    /// T = S + R + N*O; 128 bits hold it whatever the numbers are.
+    /// T (R13); 128 bits hold it whatever the numbers are.
     #[must_use]
     pub fn total(&self) -> u128 {
         let [s, r, n, o] = [self.state_table, self.read_write, self.peers, self.output].map(u128::from);
         s + r + n * o
     }
 
-    /// Whether a set-up with these numbers is accepted.
+    /// Whether a set-up with these numbers is accepted (R10).
     #[must_use]
     pub fn accepted(&self) -> bool {
         const PEERS: RangeInclusive<u64> = 2..=MAX_PEERS as u64;
@@ -96,10 +97,10 @@ pub struct Entry {
 }
 
 impl Entry {
-    /// "Reset: 0, 0, 0, 1."
+    /// At reset: masked (R49).
     pub const RESET: Entry = Entry { low: 0, high: 0, data: 0, control: 1 };
 
-    /// Address bits 0-1 and control bits 1-31 are fixed 0.
+    /// Of a connected peer's: address bits 0-1 and control bits 1-31 are 0 (R34).
     fn sound(&self) -> bool {
         self.low & 3 == 0 && self.control <= 1
     }
@@ -120,14 +121,14 @@ pub struct Peer {
 }
 
 impl Peer {
-    /// Reset values, and not connected.
+    /// Reset values (R49), and not connected.
     pub const RESET: Peer =
         Peer { connected: 0, command: 0, bar0: 0, bar1: 0, privileged: 0, message: 0, interrupt: 0, state: 0 };
 
     /// Connected, with all registers at reset values.
     pub const FRESH: Peer = Peer { connected: 1, ..Peer::RESET };
 
-    /// A connected peer whose fixed bits hold their values.
+    /// A connected peer in which no bit is set that a write cannot set (R34).
     fn sound(&self) -> bool {
         self.connected == 1
             && self.command & !0x0406 == 0
@@ -139,7 +140,7 @@ impl Peer {
     }
 }
 
-/// A switch that keeps a ring from being delivered.
+/// What keeps a ring from being delivered (R50, R51).
 #[derive(Clone, Copy, Debug, PartialEq, Eq)]
 pub enum Block {
     NoSuchId,
@@ -152,7 +153,7 @@ pub enum Block {
     InterruptControlOff,
 }
 
-/// What became of a ring.
+/// What became of a ring (R51 to R53).
 #[derive(Clone, Debug, PartialEq, Eq)]
 pub enum Ring {
     /// Delivered; whether it cleared the target's Interrupt Control (one-shot).
@@ -161,7 +162,7 @@ pub enum Ring {
     Lost(Vec<Block>),
 }
 
-/// The numbers of all refusals that apply to a call, in the rules' order: the first is the one given.
+/// The numbers of all refusals that apply to a call, in the order of R30 or R14: the first is the one given.
 #[derive(Clone, Debug, PartialEq, Eq)]
 pub struct Refused(pub Vec<u32>);
 
@@ -209,24 +210,25 @@ impl Request {
     }
 }
 
+/// An access to configuration space (R37).
 fn configuration_access(offset: u64, width: u64) -> Access {
     Access::Space { bytes: 256, widths: &[1, 2, 4], offset, width }
 }
 
-/// An access to the register region or the MSI-X region.
+/// An access to the register region (R45) or the MSI-X region (R47).
 fn bar_access(offset: u64, width: u64) -> Access {
     Access::Space { bytes: 4096, widths: &[4], offset, width }
 }
 
-/// The answer to the section question, where it is not refused.
+/// The answer to the section question (R64), where it is not refused.
 #[derive(Clone, Copy, Debug, PartialEq, Eq)]
 pub struct Placement {
     pub section: Section,
     pub store: bool,
 }
 
-/// Settings, peers and their MSI-X entries, in any state that memory can hold: as many peers as the settings say, and of each
-/// as many entries, one peer's after another's.
+/// Settings, peers and their MSI-X entries (R1), in any state that memory can hold: as many peers as the settings say, and of
+/// each as many entries, one peer's after another's.
 #[derive(Clone, Debug, PartialEq, Eq)]
 pub struct Hub {
     pub numbers: Numbers,
@@ -235,10 +237,10 @@ pub struct Hub {
 }
 
 impl Hub {
-    /// What stands in words that are no hub: nothing.
+    /// What stands in words that are no hub: nothing (R16).
     pub const NONE: Hub = Hub { numbers: Numbers::ZERO, peers: Vec::new(), entries: Vec::new() };
 
-    /// A hub with these numbers, which are not too large, and nobody connected.
+    /// A hub with these numbers, which are not too large, and nobody connected (R17).
     #[must_use]
     pub fn fresh(numbers: Numbers) -> Hub {
         let peers = vec![Peer::RESET; numbers.peers as usize];
@@ -259,8 +261,7 @@ impl Hub {
         &mut self.entries[id as usize * vectors..][..vectors]
     }
 
-    /// "Sound: the set-up numbers would be accepted, bits that can't be written hold their fixed values, and unconnected or
-    /// unused slots and vectors hold reset values." None are unused, since a hub has no more than its set-up asks for.
+    /// R33 to R35: the set-up numbers "would be accepted and each slot is sound".
     #[must_use]
     pub fn sound(&self) -> bool {
         self.numbers.accepted()
@@ -274,13 +275,13 @@ impl Hub {
             })
     }
 
-    /// The registers become these, and all entries take their reset values.
+    /// The registers become these, and all entries take their reset values (R57 to R59).
     pub fn restart(&mut self, id: u64, registers: Peer) {
         self.peers[id as usize] = registers;
         self.entries_mut(id).fill(Entry::RESET);
     }
 
-    /// "When the hub says no": all refusals that apply, in the rules' order. 1 belongs to set-up alone.
+    /// All refusals that apply, in the order of R30. 1 belongs to set-up alone (R19).
     fn refuse(&self, request: &Request) -> Result<(), Refused> {
         let Request { region, records, id, connect, .. } = *request;
         let exists = id < self.numbers.peers;
@@ -300,7 +301,7 @@ impl Hub {
         ])
     }
 
-    /// Whether 6, 7, 8 and 9 apply.
+    /// Whether 6, 7, 8 and 9 apply (R24 to R27).
     fn refuse_access(&self, id: u64, access: &Access) -> [bool; 4] {
         match *access {
             Access::None => [false; 4],
@@ -318,8 +319,8 @@ impl Hub {
         }
     }
 
-    /// Set-up: the hub, and the region all zero. No hub is handed in, so whatever the words held before, 10 is not for that; it
-    /// is given where their number is not the one that a hub with these numbers takes.
+    /// Set-up (R14, R17): the hub, and the region all zero. No hub is handed in, so whatever the words held before, 10 is not for
+    /// that; it is given where their number is not the one that a hub with these numbers takes.
     ///
     /// # Errors
     /// 1, 10 or 2.
@@ -329,7 +330,7 @@ impl Hub {
         Ok(Hub::fresh(numbers))
     }
 
-    /// A question of the host: 1 where the peer is connected, else 0.
+    /// A question of the host (R8): 1 where the peer is connected, else 0.
     ///
     /// # Errors
     /// 10 or 3.
@@ -338,7 +339,7 @@ impl Hub {
         Ok(self.peers[id as usize].connected)
     }
 
-    /// "Connect: reset values, no ring."
+    /// Connect (R59): everything at reset, and nobody is rung.
     ///
     /// # Errors
     /// 10, 3 or 5.
@@ -348,7 +349,7 @@ impl Hub {
         Ok(())
     }
 
-    /// "Reset: all registers to reset values, entry 0, then vector 0 rung at the others", since C-11 only if State was not 0.
+    /// Reset (R57): everything at reset, and the others are rung where State was not 0.
     ///
     /// # Errors
     /// 10, 2, 11, 3 or 4.
@@ -356,7 +357,7 @@ impl Hub {
         self.leave(region, records, id, Peer::FRESH)
     }
 
-    /// "Disconnect: the same, and the peer is gone."
+    /// Disconnect (R58): the same, and the peer is connected no longer.
     ///
     /// # Errors
     /// 10, 2, 11, 3 or 4.
@@ -364,6 +365,7 @@ impl Hub {
         self.leave(region, records, id, Peer::RESET)
     }
 
+    /// What reset and disconnect share (R57, R58).
     fn leave(&mut self, region: &mut [u8], records: usize, id: u64, after: Peer) -> Result<Vec<Ring>, Refused> {
         self.refuse(&Request::new(id, Access::None).region(region.len()).records(records))?;
         let old = self.peers[id as usize].state;
@@ -371,15 +373,15 @@ impl Hub {
         Ok(self.announce(region, id, old))
     }
 
-    /// The State Table entry takes the peer's State, and the others are rung "only where the State value changes" (C-11) from
-    /// what the register held.
+    /// The State Table entry takes the peer's State, and the others are rung "only where the State value changes" (R55) from
+    /// what the register held (R56).
     fn announce(&mut self, region: &mut [u8], id: u64, old: u32) -> Vec<Ring> {
         let state = self.peers[id as usize].state;
         set_table_entry(region, id, state);
         if state == old { Vec::new() } else { self.ring_others(id) }
     }
 
-    /// The 256 bytes of the peer's configuration space.
+    /// The 256 bytes of the peer's configuration space (R38, R39).
     fn configuration(&self, id: usize) -> [u8; 256] {
         let (numbers, peer) = (&self.numbers, &self.peers[id]);
         let mut space = [0; 256];
@@ -406,6 +408,8 @@ impl Hub {
         space
     }
 
+    /// A read of configuration space (R40).
+    ///
     /// # Errors
     /// 10, 3, 4, 6, 7 or 8.
     pub fn configuration_read(&self, id: u64, offset: u64, width: u64) -> Result<u32, Refused> {
@@ -416,6 +420,8 @@ impl Hub {
         Ok(u32::from_le_bytes(bytes))
     }
 
+    /// A write of configuration space (R42).
+    ///
     /// # Errors
     /// 10, 3, 4, 6, 7 or 8.
     pub fn configuration_write(&mut self, id: u64, offset: u64, width: u64, value: u32) -> Result<(), Refused> {
@@ -435,11 +441,13 @@ impl Hub {
         Ok(())
     }
 
-    /// "With the peer's Command bit 1 off, this region and the MSI-X region read FFFFFFFFh and stores do nothing."
+    /// Whether Command bit 1 is off at the peer, so that its register region and its MSI-X region are not there (R46).
     fn hidden(&self, id: u64) -> bool {
         self.peers[id as usize].command & 1 << 1 == 0
     }
 
+    /// A read of the register region (R45, R46).
+    ///
     /// # Errors
     /// 10, 3, 4, 6, 7 or 8.
     pub fn register_read(&self, id: u64, offset: u64, width: u64) -> Result<u32, Refused> {
@@ -457,6 +465,8 @@ impl Hub {
         })
     }
 
+    /// A write of the register region (R45, R46).
+    ///
     /// # Errors
     /// 10, 2, 11, 3, 4, 6, 7 or 8.
     pub fn register_write(
@@ -477,8 +487,9 @@ impl Hub {
                 peer.interrupt = value & 1;
                 Ok(Vec::new())
             }
-            // Doorbell: v = bits 0-15, t = bits 16-31; a peer may ring itself.
+            // Doorbell (R54): v = bits 0-15, t = bits 16-31; a peer may ring itself.
             0x0c => Ok(vec![self.ring(u64::from(value >> 16), u64::from(value & 0xffff))]),
+            // State (R55).
             0x10 => {
                 let old = peer.state;
                 peer.state = value;
@@ -488,6 +499,8 @@ impl Hub {
         }
     }
 
+    /// A read of the MSI-X region (R46, R47).
+    ///
     /// # Errors
     /// 10, 3, 4, 6, 7 or 8.
     pub fn msix_read(&self, id: u64, offset: u64, width: u64) -> Result<u32, Refused> {
@@ -507,6 +520,8 @@ impl Hub {
         })
     }
 
+    /// A write of the MSI-X region (R46 to R48).
+    ///
     /// # Errors
     /// 10, 3, 4, 6, 7 or 8.
     pub fn msix_write(&mut self, id: u64, offset: u64, width: u64, value: u32) -> Result<(), Refused> {
@@ -524,8 +539,8 @@ impl Hub {
         Ok(())
     }
 
-    /// "It is delivered exactly when" none of these holds. Where there is no such peer or vector, what it lacks can't be
-    /// looked at.
+    /// A ring is delivered exactly where none of these holds (R50, R51). Where there is no such peer or vector, what it lacks
+    /// can't be looked at.
     #[must_use]
     pub fn blocks(&self, target: u64, vector: u64) -> Vec<Block> {
         let mut blocks = Vec::new();
@@ -555,7 +570,7 @@ impl Hub {
         blocks
     }
 
-    /// One ring: deliver, then clear the target's Interrupt Control if it is one-shot; or change nothing.
+    /// One ring: deliver, then clear the target's Interrupt Control if it is one-shot (R52); or change nothing (R53).
     fn ring(&mut self, target: u64, vector: u64) -> Ring {
         let blocks = self.blocks(target, vector);
         if !blocks.is_empty() {
@@ -576,12 +591,12 @@ impl Hub {
         Ring::Delivered(delivery, one_shot)
     }
 
-    /// "then vector 0 is rung at every other id, ascending."
+    /// Vector 0 "is rung at every other id, ascending" (R55).
     fn ring_others(&mut self, id: u64) -> Vec<Ring> {
         (0..self.numbers.peers).filter(|&other| other != id).map(|other| self.ring(other, 0)).collect()
     }
 
-    /// "A shared range lies whole in one section or in none." The range is not empty.
+    /// The section that holds the whole shared range (R61, R62), if there is one. The range is not empty.
     #[must_use]
     pub fn section_of(&self, offset: u64, length: u64) -> Option<Section> {
         let Numbers { peers, state_table, read_write, output, .. } = self.numbers;
@@ -599,7 +614,7 @@ impl Hub {
         owner.map(|owner| Section::Output(PeerId(owner as u16)))
     }
 
-    /// The section question; it never gives 9.
+    /// The section question (R64); it never gives 9.
     ///
     /// # Errors
     /// 10, 3, 4, 6 or 8.
@@ -609,6 +624,8 @@ impl Hub {
         Ok(Placement { section, store: may_store(id, section) })
     }
 
+    /// A load of shared bytes (R65).
+    ///
     /// # Errors
     /// 10, 2, 3, 4, 6 or 8.
     pub fn load(&self, region: &[u8], id: u64, offset: u64, buffer: &mut [u8]) -> Result<(), Refused> {
@@ -618,6 +635,8 @@ impl Hub {
         Ok(())
     }
 
+    /// A store of shared bytes (R65).
+    ///
     /// # Errors
     /// 10, 2, 3, 4, 6, 8 or 9.
     pub fn store(&self, region: &mut [u8], id: u64, offset: u64, bytes: &[u8]) -> Result<(), Refused> {
@@ -628,7 +647,7 @@ impl Hub {
     }
 }
 
-/// "A write replaces, byte by byte, only the bits of this mask."
+/// The mask of a byte of configuration space (R38, R41).
 fn writable_bits(at: usize) -> u8 {
     match at {
         0x04 => 0x06,
@@ -641,12 +660,12 @@ fn writable_bits(at: usize) -> u8 {
     }
 }
 
-/// "the region's bytes 4*id to 4*id+3 take it little-endian"
+/// The peer's State Table entry takes the value (R55).
 fn set_table_entry(region: &mut [u8], id: u64, value: u32) {
     region[4 * id as usize..][..4].copy_from_slice(&value.to_le_bytes());
 }
 
-/// "it stores to R/W and its own output"
+/// Whether the peer may store to the section (R63).
 fn may_store(id: u64, section: Section) -> bool {
     match section {
         Section::StateTable => false,

@@ -1,6 +1,6 @@
-//! Demand 3 on a subject: pairs of histories from the same set-up with equal windows of a peer, in which all that the peer is
-//! answered and gets must be equal, and at the end its registers and the region. It is proved of the library; here it is
-//! checked on the linked one, across the boundary.
+//! Isolation (R72) on a subject: pairs of histories from the same set-up with equal windows of a peer, in which all that the
+//! peer is answered and gets must be equal, and at the end its registers and the region. It is proved of the library; here it
+//! is checked on the linked one, across the boundary.
 
 use std::fmt;
 
@@ -14,9 +14,8 @@ use crate::subject::{Answer, Subject};
 use crate::window::{ITEMS, Window};
 use crate::world::World;
 
-/// What the peer sees: "the answers to the calls in (a) and the deliveries to B, each with its four parts, as one list in the
-/// order of the calls, a call's answer before its deliveries". An answer is "the number, the value, the section answer and an
-/// accepted load's bytes"; the count is the host's alone.
+/// What the peer observes (R67), in one list: the answers to its calls, and after each call the deliveries to it. An answer is
+/// "number, value, section answer, bytes of an accepted load"; the count is the host's alone.
 #[derive(Clone, Debug, PartialEq, Eq)]
 enum Seen {
     Answer(Answer, Vec<u8>),
@@ -195,7 +194,7 @@ impl fmt::Display for Tally {
     }
 }
 
-/// Demand 3 after the last calls of two histories with equal windows: the first difference, in words.
+/// Isolation (R72) after the last calls of two histories with equal windows: the first difference, in words.
 fn difference<S: Subject>(settings: &Settings, first: &mut Run<'_, S>, second: &mut Run<'_, S>) -> Option<String> {
     let of = first.of;
     if let Some(text) = seen_differently(&first.seen, &second.seen) {
@@ -223,8 +222,8 @@ fn seen_differently(left: &[Seen], right: &[Seen]) -> Option<String> {
     Some(format!("what the peer sees at place {at} is {:x?} and {:x?}", left.get(at), right.get(at)))
 }
 
-/// Replays two histories. Where the windows are equal and demand 3 does not hold: the difference, and the places of the items in
-/// each.
+/// Replays two histories. Where the windows are equal and isolation (R72) does not hold: the difference, and the places of the
+/// items in each.
 fn replay<S: Subject>(make: &impl Fn() -> S, leak: &Leak) -> Option<(String, [Vec<usize>; 2])> {
     let mut worlds = [World::default(), World::default()];
     let mut runs = worlds.each_mut().map(|world| Run::new(make(), world, &leak.settings, leak.of));

@@ -1,22 +1,22 @@
-//! A log of calls (C-13) as the rules describe it, and a player that answers it by the model. Nothing here is shared with the
-//! crate that writes and reads logs.
+//! A log of calls (C-13, R76 to R80) as the rules describe it, and a player that answers it by the model. Nothing here is
+//! shared with the crate that writes and reads logs.
 
 use ivshmem::Delivery;
 
 use crate::call::Call;
 use crate::hub::{Hub, MAX_PEERS, Numbers, Refused, Ring};
 
-/// "a body whose length the kind fixes"
+/// The "body whose length the kind gives" (R76), kind by kind.
 pub const BODIES: [usize; 12] = [38, 2, 2, 2, 5, 9, 4, 8, 4, 8, 6, 7];
-/// "The program refuses T above 32768 with 1."
+/// The largest T that a log's set-up may have (R78).
 pub const LARGEST_TOTAL: u128 = 32768;
-/// "A log that ends inside a record gives 84; an unknown kind gives 85; both stop."
+/// What is written where the log ends inside a record, and for an unknown kind (R77).
 pub const ENDS_INSIDE: u8 = 0x84;
 /// See [`ENDS_INSIDE`].
 pub const UNKNOWN_KIND: u8 = 0x85;
 
-/// A call as a record, every number cut to its field; nothing for a section question, which a log has no record for. Of a load
-/// or a store it has the first byte.
+/// A call as a record (R76), every number cut to its field; nothing for a section question, which a log has no record for. Of a
+/// load or a store it has the first byte.
 #[must_use]
 pub fn record(call: &Call) -> Option<Vec<u8>> {
     let fields = |kind: u8, fields: &[(u64, usize)]| {
@@ -47,12 +47,12 @@ pub fn record(call: &Call) -> Option<Vec<u8>> {
     }
 }
 
-/// The little-endian number in these bytes of a record.
+/// The little-endian number in these bytes of a record (R76).
 fn number(record: &[u8], at: std::ops::Range<usize>) -> u64 {
     record[at].iter().rev().fold(0, |number, byte| number << 8 | u64::from(*byte))
 }
 
-/// What a record that is taken answers.
+/// What an accepted record answers (R77).
 enum Taken {
     Done(Vec<Ring>),
     Value(u32),
@@ -60,7 +60,7 @@ enum Taken {
 
 /// The hub that a log is played on, and its region.
 pub struct Desk {
-    /// "A record before any set-up meets an all-zero hub".
+    /// The all-zero hub before the first set-up, and after one that is refused (R79).
     pub hub: Hub,
     pub region: Vec<u8>,
     /// What became of the last record's rings, and the refusals that applied to it, the one given first.
@@ -75,7 +75,7 @@ impl Default for Desk {
 }
 
 impl Desk {
-    /// Plays one whole record, and puts its answer at the end of what is written.
+    /// Plays one whole record, and puts its answer at the end of what is written (R77).
     pub fn answer(&mut self, record: &[u8], written: &mut Vec<u8>) {
         self.rings.clear();
         self.refused.clear();
@@ -100,6 +100,7 @@ impl Desk {
         }
     }
 
+    /// The call that a record is (R76), with a delivery table of 64 records (R78).
     fn play(&mut self, record: &[u8]) -> Result<Taken, Refused> {
         let (hub, region, records) = (&mut self.hub, &mut self.region, MAX_PEERS);
         let field = |at: std::ops::Range<usize>| number(record, at);
@@ -125,7 +126,7 @@ impl Desk {
         }
     }
 
-    /// "a set-up starts afresh, and a refused one leaves the all-zero hub."
+    /// A set-up "begins anew" (R79), and is refused where its T is too large (R78).
     fn set_up(&mut self, record: &[u8]) -> Result<(), Refused> {
         let field = |at: std::ops::Range<usize>| number(record, at);
         let numbers = Numbers {
@@ -149,7 +150,7 @@ impl Desk {
     }
 }
 
-/// "each delivery as 83 (target 2, vector 2, address 8, data 4)"
+/// "83h for each delivery: target 2, vector 2, address 8, data 4" (R77)
 fn write_delivery(delivery: &Delivery, written: &mut Vec<u8>) {
     written.push(0x83);
     written.extend(delivery.target.0.to_le_bytes());
@@ -158,7 +159,8 @@ fn write_delivery(delivery: &Delivery, written: &mut Vec<u8>) {
     written.extend(delivery.data.to_le_bytes());
 }
 
-/// Cuts what it is given into records and has each answered. Everything that could go wrong with it can be put in its place.
+/// Cuts what it is given into records and has each answered (R80). Everything that could go wrong with it can be put in its
+/// place.
 pub struct Player<A> {
     /// Puts the answer to a whole record at the end of what is written.
     pub answer: A,
@@ -173,7 +175,7 @@ impl<A: FnMut(&[u8], &mut Vec<u8>)> Player<A> {
         Player { answer, bodies: BODIES, held: Vec::new(), stopped: false }
     }
 
-    /// Takes the next piece of the log, and puts what is written for it at the end of what is written.
+    /// Takes the next piece of the log, and puts what is written for it at the end of what is written (R80).
     pub fn feed(&mut self, piece: &[u8], written: &mut Vec<u8>) {
         let mut piece = piece;
         while let (false, Some((first, _))) = (self.stopped, piece.split_first()) {
@@ -194,7 +196,7 @@ impl<A: FnMut(&[u8], &mut Vec<u8>)> Player<A> {
         }
     }
 
-    /// The log ends here.
+    /// The log ends here (R77).
     pub fn end(&mut self, written: &mut Vec<u8>) {
         if !self.stopped && !self.held.is_empty() {
             written.push(ENDS_INSIDE);

@@ -1,4 +1,4 @@
-//! One-shot mode over stretches of histories. While a connected peer has it on, the interrupts that the peer gets, its
+//! One-shot mode over stretches of histories (R73). While a connected peer has it on, the interrupts that the peer gets, its
 //! Interrupt Control as it stands and its own clears of it add up to its own sets and Interrupt Control at the start. The
 //! library is proved to keep this balance; here it is checked on the linked library, after every call.
 //!

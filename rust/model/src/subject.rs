@@ -240,7 +240,7 @@ impl Subject for Model {
         match outcome {
             Err(refused) => {
                 if let Call::SetUp(_) = call {
-                    // "A refused set-up returns an all-zero hub": all words that it is lent, however many they are.
+                    // R18: all words that it is lent, "however many they are".
                     words.fill(0);
                 }
                 self.refused(refused)
@@ -308,7 +308,7 @@ impl Model {
         Answer::default()
     }
 
-    /// "A refusal returns its number, value 0 and no deliveries, and a refused question names no section and says no."
+    /// A refused call "answers its number and value 0" (R31), and of a section question no section and no right to store.
     fn refused(&mut self, refused: Refused) -> Answer {
         let number = refused.number();
         self.also = refused.0;
@@ -317,7 +317,7 @@ impl Model {
     }
 }
 
-/// The table is "filled from the front, later records untouched"; answers the count.
+/// The deliveries are written "from the front, later records stay as they were" (R60); answers the count.
 fn hand_out(rings: &[Ring], table: &mut [Delivery]) -> usize {
     let delivered = rings.iter().filter_map(|ring| match ring {
         Ring::Delivered(delivery, _) => Some(*delivery),

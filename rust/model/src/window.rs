@@ -1,22 +1,19 @@
-//! "What a guest can learn": the window of one peer in a history, from the calls and whether each was accepted. Nothing here
-//! looks at a hub.
+//! The window of one peer in a history (R69 to R71), from the calls and whether each was accepted. Nothing here looks at a hub.
 
 use std::fmt;
 
 use crate::call::{Call, Event, Lengths};
 
-/// "For peer B, its window of a history holds in order" these.
+/// What the window of peer B "holds in order, and nothing else" (R69).
 #[derive(Clone, Debug, PartialEq, Eq)]
 pub enum Item {
-    /// (a) "every call by B and every connect, disconnect and reset of B, with its arguments and lent lengths, refused ones
-    /// too"
+    /// (a) A call by B or on B, accepted or refused: its arguments and the lengths that it was lent.
     Own(Call, Lengths),
-    /// (b) "each accepted Doorbell store by another with that peer's Command bit 1 on and t = B: its vector"
+    /// (b) "another's accepted Doorbell store at id B, with that peer's Command bit 1 on": the vector.
     Bell { vector: u32 },
-    /// (c) "each State value set by an accepted store of another with its bit 1 on, or zero by another's accepted reset or
-    /// disconnect, with that id"; since C-11 "changed values only"
+    /// (c) Another's State value that changes, by its store or to 0 by its reset or disconnect: the id and the new value.
     Word { id: u64, value: u32 },
-    /// (d) "each accepted shared store by another: offset and bytes"
+    /// (d) "another's accepted store of shared bytes": offset and bytes.
     Bytes { offset: u64, bytes: Vec<u8> },
 }
 
@@ -50,10 +47,9 @@ impl fmt::Display for Item {
 /// What the accepted calls of a peer say about it.
 #[derive(Clone, Copy, Default)]
 struct Told {
-    /// "bit 1 of the last byte that its accepted configuration writes put at 04h since its last accepted connect or reset, off
-    /// if there is none"
+    /// Its Command bit 1, as R71 has it worked out.
     memory: bool,
-    /// The value of its State.
+    /// The value of its State (R56).
     state: u32,
 }
 
@@ -72,7 +68,7 @@ impl Window {
         Window { of, told: vec![Told::default(); peers as usize], items: Vec::new() }
     }
 
-    /// Takes in the next event of the history, a call; the item that it gives.
+    /// Takes in the next event of the history, a call; the item that it gives (R69).
     pub fn take(&mut self, event: &Event, accepted: bool) -> Option<&Item> {
         let Event::Call(call, lengths) = event else { return None };
         let item = if call.peer() == Some(self.of) {
@@ -90,7 +86,7 @@ impl Window {
         self.items.last().filter(|_| there)
     }
 
-    /// What another's accepted call gives.
+    /// What another's accepted call gives (R70).
     fn sent(&self, call: &Call) -> Option<Item> {
         let told = |id: u64| self.told.get(id as usize).copied().unwrap_or_default();
         let changed = |id: u64, value: u32| (value != told(id).state).then_some(Item::Word { id, value });
@@ -108,7 +104,7 @@ impl Window {
         }
     }
 
-    /// What an accepted call says about the peer that it is by or on.
+    /// What an accepted call says about the peer that it is by or on (R71).
     fn tell(&mut self, call: &Call) {
         let Some(told) = call.peer().and_then(|id| self.told.get_mut(id as usize)) else { return };
         match *call {

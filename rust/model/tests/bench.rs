@@ -131,7 +131,7 @@ fn whole_list() {
     assert_eq!(bench.register(1, 0x10, 5), [to(0, 0x40), to(3, 0x43)]);
     assert_eq!(bench.0.world().region()[4..8], [5, 0, 0, 0]);
     assert_eq!(bench.answer(Call::RegisterRead { id: 3, offset: 0x08, width: 4 }).value, 0);
-    // "the second store of 5 delivers nothing" (C-11)
+    // R55: the second store of 5 changes nothing, so nobody is rung (C-11).
     assert_eq!(bench.register(1, 0x10, 5), []);
     assert_eq!(bench.register(1, 0x10, 6), [to(0, 0x40)]);
 }
@@ -308,8 +308,7 @@ fn refused_set_ups() {
     }
 }
 
-/// "Sound: the set-up numbers would be accepted": every call on a hub whose stored base is below the lowest, at it
-/// or above.
+/// R33, "its set-up numbers would be accepted": every call on a hub whose stored base is below the lowest, at it or above.
 #[test]
 fn stored_bases() {
     let settings = Settings { base: 0x10_0000, output: 4096, ..four_peers(4) };

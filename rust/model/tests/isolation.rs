@@ -1,5 +1,5 @@
-//! Demand 3 on the linked library: histories with the same window of a peer, which the peer must not be able to tell apart. And
-//! the library with a slip that tells a peer something about the others: each must be found.
+//! Isolation (R72) on the linked library: histories with the same window of a peer, which the peer must not be able to tell
+//! apart. And the library with a slip that tells a peer something about the others: each must be found.
 
 use std::io::Write;
 use std::time::Instant;
