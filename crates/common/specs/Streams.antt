@@ -1,23 +1,27 @@
--- Machines that are fed bytes and write bytes. Where a machine stands after a byte, and what it writes for it, is all that is known
--- of it, so that what is shown here holds of records of any form.
+-- Machines that are fed bytes and give something for them. Where a machine stands after a byte, and what it gives for it, is all
+-- that is known of it, so that what is shown here holds of records and of answers of any form.
 use Prim.Native.Nat.{ℕ}
 use mathlib.Core.List.{List, [], _∷_, _++_}
 
-pub record Fed (M : Type 0) : Type 0 where
+pub record FedOf (A M : Type 0) : Type 0 where
   pub machine : M
-  pub written : List ℕ
+  pub written : List A
 
-abbrev pub fedTo : {M : Type 0} → M → List ℕ → Fed M
+-- what a machine that writes bytes gives
+abbrev pub Fed : Type 0 → Type 0
+Fed M = FedOf ℕ M
+
+abbrev pub fedTo : {A M : Type 0} → M → List A → FedOf A M
 fedTo m written = record { machine = m; written = written }
 
 -- byte after byte
-unfoldable pub fedAll : {M : Type 0} → (M → ℕ → Fed M) → M → List ℕ → Fed M
+unfoldable pub fedAll : {A M : Type 0} → (M → ℕ → FedOf A M) → M → List ℕ → FedOf A M
 fedAll feed m [] = fedTo m []
 fedAll feed m (b ∷ bs) =
     fedTo (fedAll feed (feed m b .machine) bs .machine) (feed m b .written ++ fedAll feed (feed m b .machine) bs .written)
 
 -- piece after piece: each is fed where the one before left the machine
-unfoldable pub fedPieces : {M : Type 0} → (M → ℕ → Fed M) → M → List (List ℕ) → Fed M
+unfoldable pub fedPieces : {A M : Type 0} → (M → ℕ → FedOf A M) → M → List (List ℕ) → FedOf A M
 fedPieces feed m [] = fedTo m []
 fedPieces feed m (p ∷ ps) =
     fedTo (fedPieces feed (fedAll feed m p .machine) ps .machine)
