@@ -1,0 +1,102 @@
+// The library with which a host reads what the server of the older ivshmem device sends: numbers are plain and memory is lent.
+use reader::Message;
+use reader::Progress;
+ghost use mathlib.Core.Path.{_≡_};
+ghost use Rattle.ivshmem_protocol.specs.Promises.{ReadsInNumbers, numbersOf};
+
+// A message in numbers: its kind, the id that it names, and the vectors that the id has then.
+pub struct MessageNumbers {
+    pub kind: u32,
+    pub id: u32,
+    pub count: u32,
+}
+
+// The answer to a call: a refusal's number or 0, the message in numbers, the bytes taken of the input, and the progress.
+#[repr(C)]
+pub struct ReadNumbers {
+    pub number: u32,
+    pub message: u32,
+    pub id: u32,
+    pub count: u32,
+    pub taken: usize,
+    pub progress: Progress,
+}
+
+// The number of this interface. It stands in the function's name, so that what was compiled for another one does not link.
+#[no_mangle]
+pub extern "C" fn ivshmem_protocol_interface_1() -> u32
+    ensures { λ r. ⌜ r ≡ 1 ⌝ }
+{
+    1
+}
+
+fn in_numbers(m: Message) -> MessageNumbers
+    ensures { λ r. ⌜ r ≡ numbersOf m ⌝ }
+{
+    match m {
+        Message::More => MessageNumbers {
+            kind: 0,
+            id: 0,
+            count: 0,
+        },
+        Message::Version => MessageNumbers {
+            kind: 1,
+            id: 0,
+            count: 0,
+        },
+        Message::Id(id) => MessageNumbers {
+            kind: 2,
+            id: id as u32,
+            count: 0,
+        },
+        Message::Memory => MessageNumbers {
+            kind: 3,
+            id: 0,
+            count: 0,
+        },
+        Message::Vector(id, count) => MessageNumbers {
+            kind: 4,
+            id: id as u32,
+            count: count as u32,
+        },
+        Message::Extra(id, count) => MessageNumbers {
+            kind: 5,
+            id: id as u32,
+            count: count as u32,
+        },
+        Message::Disconnected(id) => MessageNumbers {
+            kind: 6,
+            id: id as u32,
+            count: 0,
+        },
+        Message::Closed => MessageNumbers {
+            kind: 7,
+            id: 0,
+            count: 0,
+        },
+    }
+}
+
+// `reader::read`, with its message in numbers.
+#[no_mangle]
+pub extern "C" fn ivshmem_protocol_read(
+    progress: Progress,
+    counts: &mut [u8],
+    vectors: u64,
+    input: &[u8],
+) -> ReadNumbers
+    ensures { λ r. ⌜ ReadsInNumbers vectors progress (now (counts .entry)) (now (counts .exit)) (now (input .entry)) r ⌝ }
+{
+    let a = reader::read(progress, counts, vectors, input);
+    let message = a.message;
+    let said = in_numbers(message);
+    let next = a.progress;
+    ReadNumbers {
+        number: a.number,
+        message: said.kind,
+        id: said.id,
+        count: said.count,
+        taken: a.taken,
+        progress: next,
+    }
+}

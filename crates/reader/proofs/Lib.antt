@@ -1,0 +1,10 @@
+pub mod SizeLaws
+pub mod NumberLaws
+pub mod PlaceLaws
+pub mod GoodLaws
+pub mod RecordLaws
+pub mod ReadLaws
+pub mod Keeping
+pub mod Cutting
+pub mod Own
+pub mod Cases

@@ -1,0 +1,47 @@
+-- `reader::records::gathered` meets its contract.
+use borrow.Author.Needs.{needs}
+use Rattle.common.specs.Lists.{tabulate}
+use Rattle.reader.proofs.records.gathered.Statement.{statement}
+use Rattle.reader.proofs.records.gathered.Tie as tie
+
+place-requires : tie.Need-place-requires
+place-requires c κs = search needs
+
+place-requires-2 : tie.Need-place-requires-2
+place-requires-2 c κs = search needs
+
+place-requires-3 : tie.Need-place-requires-3
+place-requires-3 c κs = search needs
+
+place-requires-4 : tie.Need-place-requires-4
+place-requires-4 c κs = search needs
+
+place-requires-5 : tie.Need-place-requires-5
+place-requires-5 c κs = search needs
+
+place-requires-6 : tie.Need-place-requires-6
+place-requires-6 c κs = search needs
+
+place-requires-7 : tie.Need-place-requires-7
+place-requires-7 c κs = search needs
+
+place-requires-8 : tie.Need-place-requires-8
+place-requires-8 c κs = search needs
+
+returns : tie.Need-returns
+unfolding tabulate
+returns c = rw (c .before .before .before .before .before .before .before .place .ensures, c .before .before .before .before .before .before .place2 .ensures, c .before .before .before .before .before .place3 .ensures, c .before .before .before .before .place4 .ensures, c .before .before .before .place5 .ensures, c .before .before .place6 .ensures, c .before .place7 .ensures, c .place8 .ensures)
+
+pub gathered-spec : {M : Type 1} → statement M
+gathered-spec =
+    tie.close
+    (tie.spec
+    place-requires
+    place-requires-2
+    place-requires-3
+    place-requires-4
+    place-requires-5
+    place-requires-6
+    place-requires-7
+    place-requires-8
+    returns)

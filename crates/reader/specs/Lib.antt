@@ -1,0 +1,7 @@
+pub mod Sizes
+pub mod Records
+pub mod Steps
+pub mod Reading
+pub mod Parts
+pub mod Cutting
+pub mod Keeping
