@@ -1,11 +1,13 @@
-// A host in C++17 over the same header and archive: two peers, one rings the other. Ends with 1 where an answer is not the one
-// that it has to be.
+// A host in C++17 over the same headers and archives: two peers, one rings the other; and a server's records, read from a stream.
+// Ends with 1 where an answer is not the one that it has to be.
+#include <array>
 #include <cstddef>
 #include <cstdint>
 #include <cstdio>
 #include <vector>
 
 #include "ivshmem.h"
+#include "ivshmem_protocol.h"
 
 namespace {
 
@@ -54,6 +56,45 @@ bool switch_on(Hub &hub, std::uint64_t id)
         && hub.write(id, IVSHMEM_REGISTER_INTERRUPT_CONTROL, 1).empty();
 }
 
+class Server {
+public:
+    explicit Server(std::uint64_t vectors) : vectors(vectors) {}
+
+    // The messages of a piece of the stream, which is not empty, in order.
+    std::vector<std::uint32_t> read(const std::vector<std::uint8_t> &piece)
+    {
+        std::vector<std::uint32_t> messages;
+        ivshmem_protocol_answer answer = {};
+        std::size_t taken = 0;
+
+        do {
+            answer = ivshmem_protocol_read(progress, counts.data(), counts.size(), vectors, piece.data() + taken,
+                                           piece.size() - taken);
+            messages.push_back(answer.message);
+            progress = answer.progress;
+            taken += answer.taken;
+        } while (answer.message != IVSHMEM_PROTOCOL_MESSAGE_MORE);
+        return messages;
+    }
+
+    std::uint32_t id() const { return progress.own; }
+
+private:
+    std::uint64_t vectors;
+    ivshmem_protocol_progress progress = {};
+    std::array<std::uint8_t, IVSHMEM_PROTOCOL_IDS> counts = {};
+};
+
+bool reads_records()
+{
+    const std::vector<std::uint32_t> version = {IVSHMEM_PROTOCOL_MESSAGE_VERSION, IVSHMEM_PROTOCOL_MESSAGE_MORE};
+    const std::vector<std::uint32_t> id = {IVSHMEM_PROTOCOL_MESSAGE_ID, IVSHMEM_PROTOCOL_MESSAGE_MORE};
+    Server server(1);
+
+    return server.read({0, 0, 0, 0, 0, 0, 0, 0, 0, 0, 7}) == version && server.read({0, 0, 0, 0, 0, 0, 0}) == id
+        && server.id() == 7;
+}
+
 } // namespace
 
 int main()
@@ -72,6 +113,10 @@ int main()
     const std::vector<ivshmem_delivery> told = hub.write(0, IVSHMEM_REGISTER_DOORBELL, 0x00010000);
     if (told.size() != 1 || told[0].target != 1 || told[0].vector != 0 || told[0].data != 0x40) {
         std::puts("C++: peer 1 is not rung");
+        return 1;
+    }
+    if (!reads_records()) {
+        std::puts("C++: the server's records are read wrongly");
         return 1;
     }
     settings.peers = 1;
