@@ -1,6 +1,6 @@
 -- The theorems of specs/Cutting: calls come to what their bytes come to one by one, so that only the bytes count.
 use Prim.Native.Nat.{ℕ, zero, suc, _+_, _-_, _≤_, _<_}
-use mathlib.Core.Bool.{Bool, true, false, cond}
+use mathlib.Core.Bool.{true, false}
 use mathlib.Core.List.{List, [], _∷_, _++_, append-nil}
 use mathlib.Core.Path.{_≡_, refl, sym, ap, _∙_}
 use native.Mathlib.Omega.{arith}
@@ -9,7 +9,7 @@ use lib.Seq.{length-sets, take-all, take-length}
 use Rattle.common.proofs.StreamLaws.{fed-append}
 use Rattle.common.proofs.TestLaws.{by-equal}
 use Rattle.common.specs.Streams.{FedOf, fedTo, fedAll, joined}
-use Rattle.reader.proofs.GoodLaws.{Good, good-facts, facts-good}
+use Rattle.reader.proofs.GoodLaws.{good-facts}
 use Rattle.reader.proofs.Keeping.{by-read, good-stays-good}
 use Rattle.reader.proofs.ReadLaws.{by-bool, read-accepted, accepted-refusal, reads-more, reads-whole, by-reads, holding-none, later, reads-then, reads-ninth}
 use Rattle.reader.proofs.RecordLaws.{Comes, comes}

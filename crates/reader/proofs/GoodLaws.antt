@@ -1,13 +1,13 @@
 -- What is known of a progress and counts that are not refused, and that this is all that is asked.
-use Prim.Native.Nat.{ℕ, _+_, _≤_, _<_}
-use mathlib.Core.Bool.{Bool, true, false, not, _&&_, _||_}
-use mathlib.Core.List.{List, [], _∷_}
-use mathlib.Core.Path.{_≡_, refl, sym, ap, _∙_}
+use Prim.Native.Nat.{ℕ, _≤_, _<_}
+use mathlib.Core.Bool.{Bool, true, false, _&&_, _||_}
+use mathlib.Core.List.{List}
+use mathlib.Core.Path.{_≡_, refl}
 use native.Mathlib.Omega.{arith}
 use lib.Dec.{eqb, leb, ltb}
 use lib.ListN.{length, getD}
 use borrow.Author.Tests.{leb-true, ltb-true, ltb-false, eqb-true, le-leb, lt-ltb, le-ltb, eq-eqb, not-false}
-use Rattle.common.specs.Tests.{row, first, every, below}
+use Rattle.common.specs.Tests.{first, every, below}
 use Rattle.common.proofs.TestLaws.{and-left, and-right, alike, every-true, first-zero, below-true, true-below, below-ext}
 use Rattle.reader.specs.Reading.{State, good, refusal}
 use Rattle.reader.specs.Sizes.{ids, mostVectors}

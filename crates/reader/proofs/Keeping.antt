@@ -1,11 +1,11 @@
--- The theorems of specs/Keeping: what is taken stays taken, how counts go, that nothing comes after a close, and whose id ours is.
+-- The theorems of specs/Keeping but for that of our own id: what is accepted stays accepted, what messages mean, how counts change,
+-- and that nothing changes after a close.
 use Prim.Native.Nat.{ℕ, zero, suc, _+_, _-_, _/_, _≤_, _<_}
-use mathlib.Core.Bool.{Bool, true, false, cond, _&&_}
-use mathlib.Core.List.{List, [], _∷_, _++_}
-use mathlib.Core.Logic.{_⊎_, inl, inr}
+use mathlib.Core.List.{List, _++_}
+use mathlib.Core.Logic.{inl, inr}
 use mathlib.Core.Path.{_≡_, refl, sym, ap, _∙_}
 use native.Mathlib.Omega.{arith}
-use lib.ListN.{length, take, drop, getD, set, replicate, length-append, length-set, length-replicate}
+use lib.ListN.{length, take, getD, set, replicate, length-append, length-set, length-replicate}
 use lib.Seq.{getD-set-same, getD-set-other, length-take-le}
 use Rattle.common.proofs.ListLaws.{getD-set}
 use Rattle.common.proofs.TestLaws.{by-equal}
@@ -14,13 +14,13 @@ use Rattle.reader.proofs.ReadLaws.{read-accepted, read-refused, by-read
 use Rattle.reader.proofs.RecordLaws.{Comes, comes}
 use Rattle.reader.proofs.SizeLaws.{ids-pos}
 use Rattle.reader.specs.declared.Message.{Message}
-use Rattle.reader.specs.declared.Message.the-variants.{More, Version, Id, Memory, Vector, Extra, Disconnected, Closed}
+use Rattle.reader.specs.declared.Message.the-variants.{More, Closed}
 use Rattle.reader.specs.Cutting.{Calls, isMore, withoutMore}
-use Rattle.reader.specs.Keeping.{StartIsGood, GoodStaysGood, Same, OneCount, Means, MessagesAreTrue, CountAfter, CountsRiseByOne, ClosedStays}
+use Rattle.reader.specs.Keeping.{StartIsGood, GoodStaysGood, Same, Means, MessagesAreTrue, CountAfter, CountsRiseByOne, ClosedStays}
 use Rattle.reader.specs.Reading.{State, Read, start, gives, holding, emptied, answeredBy, knownIn, heldIn, accepted, read, refusal, refusedBy}
 use Rattle.reader.specs.Records.{recordIn}
-use Rattle.reader.specs.Sizes.{ids, mostVectors}
-use Rattle.reader.specs.Steps.{Known, count, counted, Result, closes}
+use Rattle.reader.specs.Sizes.{ids}
+use Rattle.reader.specs.Steps.{Known, counted, Result, closes}
 
 getD-zeros : (n i : ℕ) → _≡_ {A = ℕ} (getD (replicate n 0) i 0) 0
 getD-zeros zero i = refl

@@ -1,7 +1,7 @@
 -- Our own id is what the second record said (`OwnIsSecond`).
-use Prim.Native.Nat.{ℕ, zero, suc, _+_, _-_, _≤_, _<_}
+use Prim.Native.Nat.{ℕ, _-_, _≤_, _<_}
 use mathlib.Core.Bool.{Bool, true, false, cond, _&&_}
-use mathlib.Core.List.{List, [], _∷_, _++_}
+use mathlib.Core.List.{List, [], _∷_}
 use mathlib.Core.Path.{_≡_, refl, sym, ap, _∙_}
 use native.Mathlib.Omega.{arith}
 use lib.Dec.{leb}
@@ -11,7 +11,7 @@ use borrow.Author.Tests.{le-leb, lt-leb}
 use Rattle.common.proofs.StreamLaws.{fed-append}
 use Rattle.common.proofs.TestLaws.{by-equal}
 use Rattle.common.specs.Streams.{FedOf, fedAll}
-use Rattle.reader.proofs.Cutting.{byBytes, given, call-is-bytes, calls}
+use Rattle.reader.proofs.Cutting.{byBytes, call-is-bytes, calls}
 use Rattle.reader.proofs.Keeping.{by-read, good-stays-good}
 use Rattle.reader.proofs.ReadLaws.{by-bool, by-less, read-accepted, accepted-refusal, reads-more, reads-whole}
 use Rattle.reader.proofs.RecordLaws.{Comes}
@@ -19,9 +19,9 @@ use Rattle.reader.specs.declared.Message.{Message}
 use Rattle.reader.specs.declared.Message.the-variants.{More}
 use Rattle.reader.specs.Cutting.{Calls, Eight, oneByte}
 use Rattle.reader.specs.Keeping.{saidBy, ownSaid, OwnIsSecond}
-use Rattle.reader.specs.Reading.{State, Read, start, gives, holding, emptied, knownIn, answeredBy, read, accepted, refusal}
+use Rattle.reader.specs.Reading.{State, Read, start, gives, holding, emptied, knownIn, answeredBy, read, refusal}
 use Rattle.reader.specs.Records.{Record, recordIn, withoutDescriptor}
-use Rattle.reader.specs.Steps.{Known, known, Result, isVersion, isId, idOf, versionStep, idStep, readRecord}
+use Rattle.reader.specs.Steps.{known, Result, isVersion, isId, idOf, versionStep, idStep, readRecord}
 
 abbrev ownOf : State → ℕ
 ownOf s = s .progress .own

@@ -1,19 +1,17 @@
 -- One call: accepted or refused, and that its first byte may be handed in by itself.
-use Prim.Native.Nat.{ℕ, zero, suc, _+_, _-_, _≤_, _<_}
-use mathlib.Core.Bool.{Bool, true, false, cond}
+use Prim.Native.Nat.{ℕ, suc, _+_, _-_, _≤_, _<_}
+use mathlib.Core.Bool.{Bool, true, false}
 use mathlib.Core.List.{List, [], _∷_, _++_, append-assoc}
 use mathlib.Core.Path.{_≡_, refl, sym, ap, _∙_}
 use native.Mathlib.Nat.{add-zero}
 use native.Mathlib.Numerals.{add-one}
 use native.Mathlib.Omega.{arith}
-use lib.Dec.{eqb, ltb}
-use lib.ListN.{length, take, set, length-append}
-use lib.Seq.{sets, take-suc-set, length-take-le}
-use borrow.Author.Tests.{eqb-true, eqb-false, eq-eqb, ne-eqb, ltb-true, ltb-false, lt-ltb, le-ltb}
+use lib.Dec.{ltb}
+use lib.ListN.{length, length-append}
+use lib.Seq.{take-suc-set, length-take-le}
+use borrow.Author.Tests.{eq-eqb, ne-eqb, ltb-true, ltb-false, lt-ltb, le-ltb}
 use Rattle.common.proofs.TestLaws.{by-equal}
-use Rattle.reader.proofs.GoodLaws.{Good, good-facts, facts-good}
 use Rattle.reader.proofs.RecordLaws.{record-front}
-use Rattle.reader.specs.declared.Message.{Message}
 use Rattle.reader.specs.declared.Message.the-variants.{More}
 use Rattle.reader.specs.Cutting.{Eight}
 use Rattle.reader.specs.Reading.{State, Read, gives, holding, heldIn, knownIn, answeredBy, accepted, refusal, refusedBy, read}

@@ -1,17 +1,17 @@
 -- What a whole record can come to, and that only its nine bytes count.
-use Prim.Native.Nat.{ℕ, suc, _+_, _≤_, _<_}
+use Prim.Native.Nat.{ℕ, _+_, _≤_, _<_}
 use mathlib.Core.Bool.{Bool, true, false, cond, not, _&&_}
-use mathlib.Core.List.{List, _∷_, _++_}
-use mathlib.Core.Path.{_≡_, refl, ap, _∙_}
+use mathlib.Core.List.{List, _++_}
+use mathlib.Core.Path.{_≡_, refl}
 use native.Mathlib.Omega.{arith}
 use lib.Dec.{eqb, ltb}
 use lib.IntN.{ℤ, pos, negsuc}
-use lib.ListN.{length, take, drop, getD, length-drop, List·getD-append}
+use lib.ListN.{length, drop, length-drop, List·getD-append}
 use lib.Seq.{drop-append-le, take-append-le}
 use borrow.Author.Tests.{eqb-true, eqb-false, ltb-true, ltb-false, not-true}
 use Rattle.common.proofs.TestLaws.{and-left, and-right}
 use Rattle.reader.specs.declared.Message.the-variants.{Version, Id, Memory, Vector, Extra, Disconnected}
-use Rattle.reader.specs.Records.{Record, recordIn, recordOf, signed, withoutDescriptor, withDescriptor}
+use Rattle.reader.specs.Records.{Record, recordIn, withoutDescriptor, withDescriptor}
 use Rattle.reader.specs.Sizes.{ids}
 use Rattle.reader.specs.Steps.{Known, known, count, counted, Result, result, closes, isId, idOf, isVersion, isMemory}
 use Rattle.reader.specs.Steps.{versionStep, idStep, memoryStep, adds, removes, peersStep, readRecord}

@@ -1,6 +1,6 @@
 // A record's bytes: those held and those of the input, and the signed number that the last eight make.
 ghost use mathlib.Core.Path.{_≡_};
-ghost use Prim.Native.Nat.{_+_, _≤_, _<_};
+ghost use Prim.Native.Nat.{_+_, _<_};
 ghost use mathlib.Core.List.{[], _∷_};
 ghost use lib.ListN.{getD};
 ghost use Rattle.common.specs.Bytes.{number};

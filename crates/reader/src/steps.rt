@@ -7,7 +7,7 @@ ghost use mathlib.Core.List.{List};
 ghost use lib.ListN.{length};
 ghost use Rattle.reader.specs.Records.{recordOf};
 ghost use Rattle.reader.specs.Sizes.{ids, mostVectors};
-ghost use Rattle.reader.specs.Steps.{isId, idOf, isVersion, isMemory, known, result, closes};
+ghost use Rattle.reader.specs.Steps.{peersDue, isId, idOf, isVersion, isMemory, known, result, closes};
 ghost use Rattle.reader.specs.Steps.{versionStep, idStep, memoryStep, peersStep, adds, removes, readRecord};
 ghost use Rattle.reader.specs.Parts.{resultOf};
 
@@ -97,7 +97,7 @@ fn memory_due(own: u32, kind: u8, number: i64) -> Outcome
 // One vector more, up to the configured number.
 fn add(own: u32, counts: &mut [u8], vectors: u64, id: u8) -> Outcome
     requires { ⌜ (length (now counts) ≡ ids) × (vectors ≤ mostVectors) × (id < ids) ⌝ }
-    ensures { λ r. ⌜ resultOf r (now (counts .exit)) ≡ adds vectors (known 3 own (now (counts .entry))) id ⌝ }
+    ensures { λ r. ⌜ resultOf r (now (counts .exit)) ≡ adds vectors (known peersDue own (now (counts .entry))) id ⌝ }
 {
     let at = id as usize;
     let count = counts[at];
@@ -119,7 +119,7 @@ fn add(own: u32, counts: &mut [u8], vectors: u64, id: u8) -> Outcome
 // Another peer with vectors has left.
 fn remove(own: u32, counts: &mut [u8], id: u8) -> Outcome
     requires { ⌜ (length (now counts) ≡ ids) × (id < ids) ⌝ }
-    ensures { λ r. ⌜ resultOf r (now (counts .exit)) ≡ removes (known 3 own (now (counts .entry))) id ⌝ }
+    ensures { λ r. ⌜ resultOf r (now (counts .exit)) ≡ removes (known peersDue own (now (counts .entry))) id ⌝ }
 {
     let at = id as usize;
     let count = counts[at];
@@ -137,7 +137,7 @@ fn remove(own: u32, counts: &mut [u8], id: u8) -> Outcome
 
 fn peers_due(own: u32, counts: &mut [u8], vectors: u64, kind: u8, number: i64) -> Outcome
     requires { ⌜ (length (now counts) ≡ ids) × (vectors ≤ mostVectors) ⌝ }
-    ensures { λ r. ⌜ resultOf r (now (counts .exit)) ≡ peersStep vectors (known 3 own (now (counts .entry))) (recordOf kind number) ⌝ }
+    ensures { λ r. ⌜ resultOf r (now (counts .exit)) ≡ peersStep vectors (known peersDue own (now (counts .entry))) (recordOf kind number) ⌝ }
 {
     let named = is_id(number);
     if !named {

@@ -13,18 +13,26 @@ pub fn depths() -> Vec<Depth> {
     Vec::new()
 }
 
+#[cfg(not(all(target_arch = "x86_64", unix)))]
+#[must_use]
+pub fn reader_depths() -> Vec<Depth> {
+    Vec::new()
+}
+
 #[cfg(all(target_arch = "x86_64", unix))]
-pub use painted::depths;
+pub use painted::{depths, reader_depths};
 
 #[cfg(all(target_arch = "x86_64", unix))]
 mod painted {
     use std::arch::asm;
 
     use ivshmem::{Delivery, MAX_PEERS};
+    use ivshmem_protocol::raw::{Answer, Progress};
     use model::call::Call;
 
     use super::Depth;
     use crate::cases::{self, Case, SHARED_BYTES};
+    use crate::messages::{self, Way};
 
     // Only the addresses are used.
     unsafe extern "C" {
@@ -41,6 +49,7 @@ mod painted {
         fn ivshmem_section_question();
         fn ivshmem_load();
         fn ivshmem_store();
+        fn ivshmem_protocol_read();
     }
 
     type Function = unsafe extern "C" fn();
@@ -64,6 +73,8 @@ mod painted {
 
     const IN_REGISTERS: usize = 6;
     const STACK_WORDS: usize = 8192;
+    /// Records of the stream that the reader is measured with.
+    const RECORDS: usize = 1000;
     const PAINT: u64 = 0x5ac3_96f0_1e2d_4b87;
 
     /// The memory that a call is lent, at addresses that stay.
@@ -101,6 +112,44 @@ mod painted {
         let arguments = arguments(call, &mut memory);
         // SAFETY: the function and its arguments belong together, as `ivshmem.h` declares them.
         unsafe { depth(FUNCTIONS[call.kind()].1, &arguments) }
+    }
+
+    /// The deepest call of the reader of the old server's messages: the benchmark's rows, on a shorter stream.
+    #[must_use]
+    pub fn reader_depths() -> Vec<Depth> {
+        let stream = messages::stream(RECORDS);
+        let mut deepest = Depth { name: "ivshmem_protocol_read", bytes: 0 };
+        for case in messages::cases(&stream).iter().filter(|case| !case.empty) {
+            let mut way = Way::new(case);
+            while !way.is_at_end() {
+                let _ = way.call(|progress, counts, vectors, input| {
+                    let (answer, bytes) = read(progress, counts, vectors, input);
+                    deepest.bytes = deepest.bytes.max(bytes);
+                    answer
+                });
+            }
+        }
+        vec![deepest]
+    }
+
+    /// What the reader answers, and how deep it went.
+    fn read(progress: Progress, counts: &mut [u8], vectors: u64, input: &[u8]) -> (Answer, usize) {
+        let mut answer = Answer::default();
+        // The answer is too large for registers: its place goes first. So is the progress record, which goes on the stack.
+        let arguments = [
+            &raw mut answer as u64,
+            counts.as_mut_ptr() as u64,
+            counts.len() as u64,
+            vectors,
+            input.as_ptr() as u64,
+            input.len() as u64,
+            u64::from(progress.due) | u64::from(progress.own) << 32,
+            progress.held as u64,
+            u64::from_le_bytes(progress.bytes),
+        ];
+        // SAFETY: the function and its arguments belong together, as `ivshmem_protocol.h` declares them.
+        let bytes = unsafe { depth(ivshmem_protocol_read, &arguments) };
+        (answer, bytes)
     }
 
     /// The arguments of the C function, each as a 64-bit number.

@@ -1,5 +1,5 @@
 -- `ivshmem_protocol::ivshmem_protocol_read` meets its contract.
-use mathlib.Core.Path.{refl, ap}
+use mathlib.Core.Path.{ap}
 use borrow.Author.Needs.{needs}
 use Rattle.reader.specs.Reading.{Read}
 use Rattle.ivshmem_protocol.proofs.ivshmem_protocol_read.Statement.{statement}

@@ -1,14 +1,8 @@
 -- `reader::records::as_signed` meets its contract.
-use Prim.Native.Nat.{_-_, _^_}
-use mathlib.Core.Path.{_≡_, _∙_}
-use native.Mathlib.Omega.{arith}
-use lib.IntN.{negsuc, _-ℤ_}
+use Prim.Native.Nat.{_-_}
 use mir.Facts.{toZ-ofZ}
-use mir.Syntax.{w64}
-use mir.Val.{toZ}
 use borrow.Author.Needs.{needs}
 use Rattle.reader.proofs.NumberLaws.{signed-low, signed-high, signed-fits}
-use Rattle.reader.specs.Records.{signed}
 use Rattle.reader.proofs.records.as_signed.Statement.{statement}
 use Rattle.reader.proofs.records.as_signed.Tie as tie
 

@@ -1,12 +1,10 @@
 -- `reader::refusals::all_within` meets its contract: the loop joins the tests of the counts passed.
 use Prim.Native.Nat.{ℕ, _≤_, _-_}
-use mathlib.Core.Bool.{Bool, _&&_}
 use mathlib.Core.Path.{_≡_, refl, _∙_, ap}
 use native.Mathlib.Numerals.{add-one}
 use native.Mathlib.Omega.{arith}
 use lib.Dec.{leb}
 use lib.ListN.{length, getD}
-use borrow.Author.Needs.{needs}
 use Rattle.common.proofs.TestLaws.{below-suc}
 use Rattle.common.specs.Tests.{below}
 use Rattle.reader.proofs.refusals.all_within.Statement.{statement}

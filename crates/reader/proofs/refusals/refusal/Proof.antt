@@ -1,6 +1,4 @@
 -- `reader::refusals::refusal` meets its contract.
-use mathlib.Core.Path.{_≡_, ap, _∙_, sym}
-use borrow.Author.Needs.{needs}
 use borrow.Author.Tests.{ne-eqb, eq-eqb}
 use Rattle.common.specs.Tests.{first}
 use Rattle.reader.specs.Reading.{refusal}
