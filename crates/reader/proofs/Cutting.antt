@@ -11,7 +11,8 @@ use Rattle.common.proofs.TestLaws.{by-equal}
 use Rattle.common.specs.Streams.{FedOf, fedTo, fedAll, joined}
 use Rattle.reader.proofs.GoodLaws.{good-facts}
 use Rattle.reader.proofs.Keeping.{by-read, good-stays-good}
-use Rattle.reader.proofs.ReadLaws.{by-bool, read-accepted, accepted-refusal, reads-more, reads-whole, by-reads, holding-none, later, reads-then, reads-ninth}
+use Rattle.reader.proofs.ReadLaws.{by-bool, read-accepted, accepted-refusal, reads-more, reads-whole, by-reads}
+use Rattle.reader.proofs.ReadLaws.{holding-none, later, reads-then, reads-ninth}
 use Rattle.reader.proofs.RecordLaws.{Comes, comes}
 use Rattle.reader.specs.declared.Message.{Message}
 use Rattle.reader.specs.declared.Message.the-variants.{More, Version, Id, Memory, Vector, Extra, Disconnected, Closed}

@@ -22,7 +22,7 @@ pub const RECORDS: usize = 1_000_000;
 /// Where a record is nine calls, so many times fewer are read.
 const FEWER: usize = 10;
 /// How often the readers take turns at each place of the stack.
-const TURNS: usize = 10;
+const TURNS: usize = 25;
 
 /// The own id of the stream, and how seldom a peer with vectors leaves when it is picked: once in so many times.
 const OWN: usize = 5;

@@ -23,7 +23,10 @@ gathered-requires : tie.Need-gathered-requires
 gathered-requires c κs = search needs
 
 sub-wanted : tie.Need-sub-wanted
-sub-wanted c = let g = good-facts (c .before .before .before .before .args .vectors) (state (c .before .before .before .before .args .progress) (c .before .before .before .before .args .counts .now)) (c .before .before .before .before .pre) in omega arith
+sub-wanted c =
+    let c4 = c .before .before .before .before in
+    let g = good-facts (c4 .args .vectors) (state (c4 .args .progress) (c4 .args .counts .now)) (c4 .pre) in
+    omega arith
 
 add-t18 : tie.Need-add-t18
 add-t18 c = search needs
@@ -31,16 +34,27 @@ add-t18 c = search needs
 returns : tie.Need-returns
 unfolding accepted
 returns c =
-    let a = c .before .before .before .before .before .args in
-    let g = good-facts (a .vectors) (state (a .progress) (a .counts .now)) (c .before .before .before .before .before .pre) in
+    let c5 = c .before .before .before .before .before in
+    let a = c5 .args in
+    let g = good-facts (a .vectors) (state (a .progress) (a .counts .now)) (c5 .pre) in
     let eight : length (a .progress .bytes) ≡ 8 = search needs in
-    rw (lt-ltb _ _ (c .if1 .taken), c .before .gathered .ensures, all-held (a .progress .bytes) (a .input .now) (a .progress .held) eight (omega arith))
+    rw (
+      lt-ltb _ _ (c .if1 .taken),
+      c .before .gathered .ensures,
+      all-held (a .progress .bytes) (a .input .now) (a .progress .held) eight (omega arith),
+    )
 
 sub-number : tie.Need-sub-number
-sub-number c = let g = good-facts (c .before .before .before .before .before .args .vectors) (state (c .before .before .before .before .before .args .progress) (c .before .before .before .before .before .args .counts .now)) (c .before .before .before .before .before .pre) in omega arith
+sub-number c =
+    let c5 = c .before .before .before .before .before in
+    let g = good-facts (c5 .args .vectors) (state (c5 .args .progress) (c5 .args .counts .now)) (c5 .pre) in
+    omega arith
 
 shared-slice-read-number : tie.Need-shared-slice-read-number
-shared-slice-read-number c = let g = good-facts (c .before .before .before .before .before .before .args .vectors) (state (c .before .before .before .before .before .before .args .progress) (c .before .before .before .before .before .before .args .counts .now)) (c .before .before .before .before .before .before .pre) in omega arith
+shared-slice-read-number c =
+    let c6 = c .before .before .before .before .before .before in
+    let g = good-facts (c6 .args .vectors) (state (c6 .args .progress) (c6 .args .counts .now)) (c6 .pre) in
+    omega arith
 
 number-requires : tie.Need-number-requires
 number-requires c κs = search needs
@@ -49,7 +63,10 @@ array-read-read-record : tie.Need-array-read-read-record
 array-read-read-record c = search needs
 
 read-record-requires : tie.Need-read-record-requires
-read-record-requires c κs = let g = good-facts (c .before .before .before .before .before .before .before .before .args .vectors) (state (c .before .before .before .before .before .before .before .before .args .progress) (c .before .before .before .before .before .before .before .before .args .counts .now)) (c .before .before .before .before .before .before .before .before .pre) in (g .size, g .most)
+read-record-requires c κs =
+    let c8 = c .before .before .before .before .before .before .before .before in
+    let g = good-facts (c8 .args .vectors) (state (c8 .args .progress) (c8 .args .counts .now)) (c8 .pre) in
+    (g .size, g .most)
 
 same-length : tie.Need-same-length
 same-length c = search needs
@@ -57,19 +74,25 @@ same-length c = search needs
 returns-2 : tie.Need-returns-2
 unfolding accepted tabulate
 returns-2 c =
-    let a = c .before .before .before .before .before .before .before .before .before .before .before .args in
-    let g = good-facts (a .vectors) (state (a .progress) (a .counts .now)) (c .before .before .before .before .before .before .before .before .before .before .before .pre) in
+    let eight : length (c .before .before .before .before .before .before .before .before .before .before .before .args .progress .bytes) ≡ 8 =
+    search needs in
+    let c4 = c .before .before .before .before in
+    let c6 = c4 .before .before in
+    let c7 = c6 .before in
+    let c11 = c7 .before .before .before .before in
+    let a = c11 .args in
+    let g = good-facts (a .vectors) (state (a .progress) (a .counts .now)) (c11 .pre) in
     let held = a .progress .held in
-    let eight : length (a .progress .bytes) ≡ 8 = search needs in
-    let whole : 9 - held ≤ length (a .input .now) = c .before .before .before .before .before .before .if1 .left in
-    let signs : toZ w64 (ofZ w64 (c .before .before .before .before .number .result)) ≡ c .before .before .before .before .number .result = toZ-ofZ (sfits-of (c .before .before .before .before .number .ok)) in
+    let whole : 9 - held ≤ length (a .input .now) = c6 .if1 .left in
+    let signs : toZ w64 (ofZ w64 (c4 .number .result)) ≡ c4 .number .result = toZ-ofZ (sfits-of (c4 .number .ok)) in
     let last : 9 - held - 1 ≡ 8 - held = omega arith in
-    let is : recordOf (getD (c .before .before .before .before .before .before .before .gathered .result) 0 0) (toZ w64 (ofZ w64 (c .before .before .before .before .number .result))) ≡ recordIn (take held (a .progress .bytes) ++ a .input .now) =
-    rw (signs, c .before .before .before .before .number .ensures, c .before .before .before .before .before .before .before .gathered .ensures, last)
+    let is : recordOf (getD (c7 .gathered .result) 0 0) (toZ w64 (ofZ w64 (c4 .number .result)))
+    ≡ recordIn (take held (a .progress .bytes) ++ a .input .now) =
+    rw (signs, c4 .number .ensures, c7 .gathered .ensures, last)
     (sym (record-whole (a .progress .bytes) (a .input .now) held eight (g .held) whole)) in
-    let heard = c .before .before .read-record .ensures
+    let same = c .before .before .read-record .ensures
     ∙ ap (λ (r : Record). readRecord (a .vectors) (known (a .progress .due) (a .progress .own) (a .counts .now)) r) is in
-    rw (le-ltb _ _ whole) (ap (λ (h : Result). answeredBy (9 - held) h) heard)
+    rw (le-ltb _ _ whole) (ap (λ (h : Result). answeredBy (9 - held) h) same)
 
 pub accepted-spec : {M : Type 1} → statement M
 accepted-spec =

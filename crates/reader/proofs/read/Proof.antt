@@ -24,7 +24,10 @@ same-length-2 c = search needs
 
 returns-2 : tie.Need-returns-2
 unfolding read
-returns-2 c = c .before .before .accepted .ensures ∙ sym (rw (← c .before .before .before .before .before .refusal .ensures, eq-eqb _ _ (c .before .before .before .before .if1 .left)))
+returns-2 c =
+    let c4 = c .before .before .before .before in
+    let c5 = c4 .before in
+    c .before .before .accepted .ensures ∙ sym (rw (← c5 .refusal .ensures, eq-eqb _ _ (c4 .if1 .left)))
 
 pub read-spec : {M : Type 1} → statement M
 read-spec =

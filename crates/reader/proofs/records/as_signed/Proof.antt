@@ -1,5 +1,4 @@
 -- `reader::records::as_signed` meets its contract.
-use Prim.Native.Nat.{_-_}
 use mir.Facts.{toZ-ofZ}
 use borrow.Author.Needs.{needs}
 use Rattle.reader.proofs.NumberLaws.{signed-low, signed-high, signed-fits}

@@ -30,7 +30,23 @@ place-requires-8 c κs = search needs
 
 returns : tie.Need-returns
 unfolding tabulate
-returns c = rw (c .before .before .before .before .before .before .before .place .ensures, c .before .before .before .before .before .before .place2 .ensures, c .before .before .before .before .before .place3 .ensures, c .before .before .before .before .place4 .ensures, c .before .before .before .place5 .ensures, c .before .before .place6 .ensures, c .before .place7 .ensures, c .place8 .ensures)
+returns c =
+    let c2 = c .before .before in
+    let c3 = c2 .before in
+    let c4 = c3 .before in
+    let c5 = c4 .before in
+    let c6 = c5 .before in
+    let c7 = c6 .before in
+    rw (
+      c7 .place .ensures,
+      c6 .place2 .ensures,
+      c5 .place3 .ensures,
+      c4 .place4 .ensures,
+      c3 .place5 .ensures,
+      c2 .place6 .ensures,
+      c .before .place7 .ensures,
+      c .place8 .ensures,
+    )
 
 pub gathered-spec : {M : Type 1} → statement M
 gathered-spec =

@@ -102,7 +102,8 @@ as-signed-requires c κs = search needs
 
 returns : tie.Need-returns
 unfolding number
-returns c = let f : SFits w64 (c .as-signed .result) = sfits-of (c .as-signed .ok) in toZ-ofZ f ∙ c .as-signed .ensures ∙ ap signed (omega arith)
+returns c =
+    let f : SFits w64 (c .as-signed .result) = sfits-of (c .as-signed .ok) in toZ-ofZ f ∙ c .as-signed .ensures ∙ ap signed (omega arith)
 
 pub number-spec : {M : Type 1} → statement M
 number-spec =

@@ -23,9 +23,12 @@ all-within-requires-2 c κs = search needs
 returns : tie.Need-returns
 unfolding good every ids
 returns c =
-    let a = c .before .before .before .before .before .before .before .before .before .args in
-    let w = c .before .before .before .before .before .before .all-within .ensures ∙ ap (λ (n : ℕ). below n (λ i. leb (getD (a .counts .now) i 0) (a .vectors))) (c .before .before .before .before .before .before .before .before .before .pre) in
-    let z = c .before .before .before .before .before .all-within2 .ensures ∙ ap (λ (n : ℕ). below n (λ i. leb (getD (a .counts .now) i 0) 0)) (c .before .before .before .before .before .before .before .before .before .pre) ∙ none-within (a .counts .now) ids in
+    let c5 = c .before .before .before .before .before in
+    let c6 = c5 .before in
+    let c9 = c6 .before .before .before in
+    let a = c9 .args in
+    let w = c6 .all-within .ensures ∙ ap (λ (n : ℕ). below n (λ i. leb (getD (a .counts .now) i 0) (a .vectors))) (c9 .pre) in
+    let z = c5 .all-within2 .ensures ∙ ap (λ (n : ℕ). below n (λ i. leb (getD (a .counts .now) i 0) 0)) (c9 .pre) ∙ none-within (a .counts .now) ids in
     rw (w, z)
 
 pub is-good-spec : {M : Type 1} → statement M

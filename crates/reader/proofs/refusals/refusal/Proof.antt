@@ -20,11 +20,13 @@ is-good-requires c κs = c .if2 .left
 
 returns-3 : tie.Need-returns-3
 unfolding refusal first ids mostVectors
-returns-3 c = rw (c .before .before .before .if1 .left, eq-eqb _ _ (c .before .before .if2 .left), ← c .before .is-good .ensures, c .if3 .taken)
+returns-3 c =
+    rw (c .before .before .before .if1 .left, eq-eqb _ _ (c .before .before .if2 .left), ← c .before .is-good .ensures, c .if3 .taken)
 
 returns-4 : tie.Need-returns-4
 unfolding refusal first ids mostVectors
-returns-4 c = rw (c .before .before .before .if1 .left, eq-eqb _ _ (c .before .before .if2 .left), ← c .before .is-good .ensures, c .if3 .left)
+returns-4 c =
+    rw (c .before .before .before .if1 .left, eq-eqb _ _ (c .before .before .if2 .left), ← c .before .is-good .ensures, c .if3 .left)
 
 pub refusal-spec : {M : Type 1} → statement M
 refusal-spec = tie.close (tie.spec returns returns-2 is-good-requires returns-3 returns-4)

@@ -39,7 +39,10 @@ same-length c = search needs
 
 returns-4 : tie.Need-returns-4
 unfolding readRecord
-returns-4 c = rw (c .before .before .before .before .match .keys4) (c .before .before .peers-due .ensures ∙ rw (toZ-ofZ (c .before .before .before .before .before .before .fits .number)))
+returns-4 c =
+    let c4 = c .before .before .before .before in
+    let c6 = c4 .before .before in
+    rw (c4 .match .keys4) (c .before .before .peers-due .ensures ∙ rw (toZ-ofZ (c6 .fits .number)))
 
 returns-5 : tie.Need-returns-5
 unfolding readRecord
