@@ -9,24 +9,24 @@ use Rattle.reader.specs.Reading.{Read, state, read}
 use Rattle.ivshmem_protocol.specs.declared.MessageNumbers.{MessageNumbers}
 use Rattle.ivshmem_protocol.specs.declared.ReadNumbers.{ReadNumbers}
 
--- R91: the numbers that stand for a message: its kind, the id that it names, and the vectors that this id has then; 0 where the
+-- R91: the numbers that stand for a message: its own, the id that it names, and the vectors that this id has then; 0 where the
 -- message names none
 abbrev pub numbersOf : Message → MessageNumbers
-numbersOf More = record { kind = 0; id = 0; count = 0 }
-numbersOf Version = record { kind = 1; id = 0; count = 0 }
-numbersOf (Id id) = record { kind = 2; id = id; count = 0 }
-numbersOf Memory = record { kind = 3; id = 0; count = 0 }
-numbersOf (Vector id count) = record { kind = 4; id = id; count = count }
-numbersOf (Extra id count) = record { kind = 5; id = id; count = count }
-numbersOf (Disconnected id) = record { kind = 6; id = id; count = 0 }
-numbersOf Closed = record { kind = 7; id = 0; count = 0 }
+numbersOf More = record { message = 0; id = 0; count = 0 }
+numbersOf Version = record { message = 1; id = 0; count = 0 }
+numbersOf (Id id) = record { message = 2; id = id; count = 0 }
+numbersOf Memory = record { message = 3; id = 0; count = 0 }
+numbersOf (Vector id count) = record { message = 4; id = id; count = count }
+numbersOf (Extra id count) = record { message = 5; id = id; count = count }
+numbersOf (Disconnected id) = record { message = 6; id = id; count = 0 }
+numbersOf Closed = record { message = 7; id = 0; count = 0 }
 
 -- a call's answer in numbers, with the progress
 abbrev pub inNumbers : Read → ReadNumbers
 inNumbers r =
     record {
       number = r .number;
-      message = numbersOf (r .message) .kind;
+      message = numbersOf (r .message) .message;
       id = numbersOf (r .message) .id;
       count = numbersOf (r .message) .count;
       taken = r .taken;

@@ -4,9 +4,9 @@ use reader::Progress;
 ghost use mathlib.Core.Path.{_≡_};
 ghost use Rattle.ivshmem_protocol.specs.Promises.{ReadsInNumbers, numbersOf};
 
-// A message in numbers: its kind, the id that it names, and the vectors that the id has then.
+// A message in numbers: its own number, the id that it names, and the vectors that the id has then.
 pub struct MessageNumbers {
-    pub kind: u32,
+    pub message: u32,
     pub id: u32,
     pub count: u32,
 }
@@ -35,42 +35,42 @@ fn in_numbers(m: Message) -> MessageNumbers
 {
     match m {
         Message::More => MessageNumbers {
-            kind: 0,
+            message: 0,
             id: 0,
             count: 0,
         },
         Message::Version => MessageNumbers {
-            kind: 1,
+            message: 1,
             id: 0,
             count: 0,
         },
         Message::Id(id) => MessageNumbers {
-            kind: 2,
+            message: 2,
             id: id as u32,
             count: 0,
         },
         Message::Memory => MessageNumbers {
-            kind: 3,
+            message: 3,
             id: 0,
             count: 0,
         },
         Message::Vector(id, count) => MessageNumbers {
-            kind: 4,
+            message: 4,
             id: id as u32,
             count: count as u32,
         },
         Message::Extra(id, count) => MessageNumbers {
-            kind: 5,
+            message: 5,
             id: id as u32,
             count: count as u32,
         },
         Message::Disconnected(id) => MessageNumbers {
-            kind: 6,
+            message: 6,
             id: id as u32,
             count: 0,
         },
         Message::Closed => MessageNumbers {
-            kind: 7,
+            message: 7,
             id: 0,
             count: 0,
         },
@@ -93,7 +93,7 @@ pub extern "C" fn ivshmem_protocol_read(
     let next = a.progress;
     ReadNumbers {
         number: a.number,
-        message: said.kind,
+        message: said.message,
         id: said.id,
         count: said.count,
         taken: a.taken,

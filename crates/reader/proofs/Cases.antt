@@ -125,22 +125,24 @@ wrongVersion =
     ∷ closing versionAt (with 0)
     ∷ closing versionAt (with (minus 1))
     ∷ closing versionAt (bare (minus 1))
-    ∷ (kinds versionAt 0 ++ strange bare versionAt)
+    ∷ (kinds versionAt 0 ++ (strange bare versionAt ++ strange with versionAt))
 
 abbrev wrongId : List Call
 wrongId =
     closing idAt (with 5)
+    ∷ closing idAt (with (minus 1))
     ∷ closing idAt (bare (minus 1))
-    ∷ (kinds idAt 5 ++ strange bare idAt)
+    ∷ (kinds idAt 5 ++ (strange bare idAt ++ strange with idAt))
 
 -- -1 has 64 bits
 abbrev wrongMemory : List Call
 wrongMemory =
     closing memoryAt (bare (minus 1))
+    ∷ closing memoryAt (bare 5)
     ∷ closing memoryAt (with 5)
     ∷ closing memoryAt (with 0)
     ∷ closing memoryAt (with (2 ^ 32 - 1))
-    ∷ (tabulate 8 (λ j. closing memoryAt (with (minus 1 - 2 ^ (8 * j)))) ++ (kinds memoryAt (minus 1) ++ strange with memoryAt))
+    ∷ (tabulate 8 (λ j. closing memoryAt (with (minus 1 - 2 ^ (8 * j)))) ++ (kinds memoryAt (minus 1) ++ (strange with memoryAt ++ strange bare memoryAt)))
 
 -- we ourselves do not leave, and neither does a peer without vectors
 abbrev wrongPeer : List Call
@@ -180,11 +182,12 @@ right =
 abbrev holds : ℕ → List ℕ → State
 holds k r = state (record { due = 3; own = 5; held = k; bytes = take k r ++ replicate (8 - k) 0 }) some
 
-abbrev cut : ℕ → List Call
-cut k =
-    call 2 (emptied peersAt) (take k (with 5)) (gives More k (holds k (with 5)))
-    ∷ call 2 (holds k (with 5)) (drop k (with 5) ++ (1 ∷ 2 ∷ [])) (gives (Vector 5 2) (9 - k) (emptied (known 3 5 (set some 5 2))))
-    ∷ []
+abbrev begun : ℕ → Call
+begun k = call 2 (emptied peersAt) (take k (with 5)) (gives More k (holds k (with 5)))
+
+abbrev ended : ℕ → Call
+ended k =
+    call 2 (holds k (with 5)) (drop k (with 5) ++ (1 ∷ 2 ∷ [])) (gives (Vector 5 2) (9 - k) (emptied (known 3 5 (set some 5 2))))
 
 -- what stands behind the bytes held stays until the record is whole
 abbrev behind : Call
@@ -242,8 +245,8 @@ limits =
 
 pub calls : List Call
 calls =
-    right ++ (wrongVersion ++ (wrongId ++ (wrongMemory ++ (wrongPeer ++ (afterClose
-    ++ (cut 0 ++ (cut 1 ++ (cut 2 ++ (cut 3 ++ (cut 4 ++ (cut 5 ++ (cut 6 ++ (cut 7 ++ (cut 8 ++ (behind ∷ (refusals ++ limits))))))))))))))))
+    right
+    ++ (wrongVersion ++ (wrongId ++ (wrongMemory ++ (wrongPeer ++ (afterClose ++ (tabulate 9 begun ++ (tabulate 9 ended ++ (behind ∷ (refusals ++ limits)))))))))
 
 pub the-cases :
     (map (λ c. heard (c .vectors) start (c .records)) streams ≡ map (λ c. c .says) streams)

@@ -137,7 +137,7 @@ every-stream-is-read vectors s (x ∷ bytes) e =
     rw (one-taken vectors s x e) at (Calls.call (x ∷ []) zero next)
 
 -- where the bytes leave the reader it is accepted again
-stays : (vectors : ℕ) (bytes : List ℕ) (s : State) → Eight s → refusal vectors s ≡ 0
+pub stays : (vectors : ℕ) (bytes : List ℕ) (s : State) → Eight s → refusal vectors s ≡ 0
     → Eight (byBytes vectors s bytes .machine) × (refusal vectors (byBytes vectors s bytes .machine) ≡ 0)
 unfolding fedAll
 stays vectors [] s eight e = (eight, e)

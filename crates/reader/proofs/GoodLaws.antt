@@ -79,12 +79,22 @@ module _ (vectors : ℕ) (s : State) where
         empty,
       )
 
+-- a bound on the larger of two numbers is one on both
+pub bound-first : (a b most : ℕ) → b ≤ a → leb a most ≡ (leb a most && leb b most)
+bound-first a b most h =
+    alike (leb a most) (leb a most && leb b most)
+    (λ e. let l = leb-true a most e in rw (e, le-leb b most (omega arith))) (λ e. and-left (leb a most) (leb b most) e)
+
+pub bound-second : (a b most : ℕ) → a ≤ b → leb b most ≡ (leb a most && leb b most)
+bound-second a b most h =
+    alike (leb b most) (leb a most && leb b most)
+    (λ e. let l = leb-true b most e in rw (le-leb a most (omega arith), e)) (λ e. and-right (leb a most) (leb b most) e)
+
+-- a number that is no more than 0 is 0
+pub bound-zero : (n : ℕ) → leb n 0 ≡ eqb n 0
+bound-zero n =
+    alike (leb n 0) (eqb n 0) (λ e. let l = leb-true n 0 e in eq-eqb n 0 (omega arith)) (λ e. let q = eqb-true n 0 e in le-leb n 0 (omega arith))
+
 -- no count is above 0 exactly where every count is 0
 pub none-within : (l : List ℕ) (n : ℕ) → below n (λ i. leb (getD l i 0) 0) ≡ below n (λ i. eqb (getD l i 0) 0)
-none-within l n = below-ext n _ _ (λ i h. alike (leb (getD l i 0) 0) (eqb (getD l i 0) 0) (λ e. eq-eqb _ _ (zero i e)) (λ e. le-leb _ _ (le i e)))
-  where
-    zero : (i : ℕ) → leb (getD l i 0) 0 ≡ true → getD l i 0 ≡ 0
-    zero i e = let b = leb-true (getD l i 0) 0 e in omega arith
-
-    le : (i : ℕ) → eqb (getD l i 0) 0 ≡ true → getD l i 0 ≤ 0
-    le i e = let b = eqb-true (getD l i 0) 0 e in omega arith
+none-within l n = below-ext n _ _ (λ i h. bound-zero (getD l i 0))

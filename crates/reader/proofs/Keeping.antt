@@ -22,7 +22,7 @@ use Rattle.reader.specs.Records.{recordIn}
 use Rattle.reader.specs.Sizes.{ids}
 use Rattle.reader.specs.Steps.{Known, counted, Result, closes}
 
-getD-zeros : (n i : ℕ) → _≡_ {A = ℕ} (getD (replicate n 0) i 0) 0
+pub getD-zeros : (n i : ℕ) → _≡_ {A = ℕ} (getD (replicate n 0) i 0) 0
 getD-zeros zero i = refl
 getD-zeros (suc n) zero = refl
 getD-zeros (suc n) (suc i) = getD-zeros n i

@@ -7,4 +7,5 @@ pub mod ReadLaws
 pub mod Keeping
 pub mod Cutting
 pub mod Own
+pub mod Reached
 pub mod Cases

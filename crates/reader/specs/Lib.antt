@@ -5,3 +5,4 @@ pub mod Reading
 pub mod Parts
 pub mod Cutting
 pub mod Keeping
+pub mod Reached

@@ -6,29 +6,16 @@ mod steps;
 
 ghost use mathlib.Core.Path.{_≡_};
 ghost use Rattle.reader.specs.Reading.{state, answered, refusal, read, accepted};
-ghost use Rattle.reader.specs.Sizes.{ids, mostVectors};
 
 // The ids that are accepted are those below this number, and each has a count; the most vectors that can be configured.
 pub const IDS: usize = 64;
 
 pub const MOST_VECTORS: u64 = 16;
 
-pub fn ids() -> usize
-    ensures { λ r. ⌜ r ≡ ids ⌝ }
-{
-    IDS
-}
-
-pub fn most_vectors() -> u64
-    ensures { λ r. ⌜ r ≡ mostVectors ⌝ }
-{
-    MOST_VECTORS
-}
-
 // How far the reader has come, beside the counts. All zero is the start.
 #[repr(C)]
 pub struct Progress {
-    // the step that is due: 0 version, 1 id, 2 memory, 3 peers; 4 closed
+    // the step that is due (steps.rt)
     pub due: u32,
     // our own id, 0 until it is known
     pub own: u32,

@@ -1,23 +1,38 @@
 // Which calls are refused, and by which number.
 use super::Progress;
+use super::steps::CLOSED;
+use super::steps::ID_DUE;
+use super::steps::MEMORY_DUE;
 ghost use mathlib.Core.Path.{_≡_};
+ghost use Prim.Native.Nat.{ℕ};
+ghost use mathlib.Core.Bool.{_&&_};
 ghost use lib.Dec.{leb};
 ghost use lib.ListN.{length, getD};
 ghost use Rattle.common.specs.Tests.{below};
 ghost use Rattle.reader.specs.Reading.{state, good, refusal};
 ghost use Rattle.reader.specs.Sizes.{ids};
 
-// No count is above a number.
-fn all_within(counts: &[u8], most: u64) -> bool
-    ensures { λ r. ⌜ r ≡ below (length (now (counts .entry))) (λ i. leb (getD (now (counts .entry)) i 0) most) ⌝ }
+// The larger of two numbers: no more than a bound exactly where both are.
+fn larger(a: u8, b: u8) -> u8
+    ensures { λ r. ⌜ ((most : ℕ) → leb r most ≡ (leb a most && leb b most)) ⌝ }
 {
-    let mut ok = true;
+    if a < b {
+        return b;
+    }
+    a
+}
+
+// The largest count: no more than a bound exactly where all are. Compared with the bounds once, it spares a test of each count.
+fn largest(counts: &[u8]) -> u8
+    ensures { λ r. ⌜ ((most : ℕ) → leb r most ≡ below (length (now (counts .entry))) (λ i. leb (getD (now (counts .entry)) i 0) most)) ⌝ }
+{
+    let mut most = 0;
     let mut i = 0;
     while i < counts.len() {
-        ok = ok & (counts[i] as u64 <= most);
+        most = larger(most, counts[i]);
         i += 1;
     }
-    ok
+    most
 }
 
 // A progress and counts that a reader may have.
@@ -26,14 +41,13 @@ fn is_good(p: Progress, counts: &[u8], vectors: u64) -> bool
     ensures { λ r. ⌜ r ≡ good vectors (state p (now (counts .entry))) ⌝ }
 {
     let own = p.own as usize;
-    let within = all_within(counts, vectors);
-    let none = all_within(counts, 0);
-    (p.due <= 4)
+    let most = largest(counts) as u64;
+    (p.due <= CLOSED)
         & (own < super::IDS)
         & (p.held <= 8)
-        & within
-        & ((2 <= p.due) | (p.own == 0))
-        & ((3 <= p.due) | none)
+        & (most <= vectors)
+        & ((ID_DUE < p.due) | (p.own == 0))
+        & ((MEMORY_DUE < p.due) | (most == 0))
 }
 
 // 1 for a number of vectors outside its range, then 2 for counts of another number, then 10.

@@ -11,6 +11,15 @@ ghost use Rattle.reader.specs.Steps.{peersDue, isId, idOf, isVersion, is
 ghost use Rattle.reader.specs.Steps.{versionStep, idStep, memoryStep, peersStep, adds, removes, readRecord};
 ghost use Rattle.reader.specs.Parts.{resultOf};
 
+// The steps by their numbers; the first, 0, is that the version is due.
+pub const ID_DUE: u32 = 1;
+
+pub const MEMORY_DUE: u32 = 2;
+
+pub const PEERS_DUE: u32 = 3;
+
+pub const CLOSED: u32 = 4;
+
 // What a record leaves, beside the counts.
 pub struct Outcome {
     pub message: Message,
@@ -49,7 +58,7 @@ fn closed(own: u32) -> Outcome
 {
     Outcome {
         message: Message::Closed,
-        due: 4,
+        due: CLOSED,
         own,
     }
 }
@@ -69,7 +78,7 @@ fn version_due(own: u32, kind: u8, number: i64) -> Outcome
     ensures { λ r. ⌜ ((due : ℕ) (counts : List ℕ) → resultOf r counts ≡ versionStep (known due own counts) (recordOf kind number)) ⌝ }
 {
     let ok = is_version(number) & (kind == 0);
-    proceed(ok, Message::Version, 1, own)
+    proceed(ok, Message::Version, ID_DUE, own)
 }
 
 fn id_due(own: u32, kind: u8, number: i64) -> Outcome
@@ -80,7 +89,7 @@ fn id_due(own: u32, kind: u8, number: i64) -> Outcome
         let id = id_of(number);
         return Outcome {
             message: Message::Id(id),
-            due: 2,
+            due: MEMORY_DUE,
             own: id as u32,
         };
     }
@@ -91,7 +100,7 @@ fn memory_due(own: u32, kind: u8, number: i64) -> Outcome
     ensures { λ r. ⌜ ((due : ℕ) (counts : List ℕ) → resultOf r counts ≡ memoryStep (known due own counts) (recordOf kind number)) ⌝ }
 {
     let ok = is_memory(number) & (kind == 1);
-    proceed(ok, Message::Memory, 3, own)
+    proceed(ok, Message::Memory, PEERS_DUE, own)
 }
 
 // One vector more, up to the configured number.
@@ -105,13 +114,13 @@ fn add(own: u32, counts: &mut [u8], vectors: u64, id: u8) -> Outcome
         counts[at] = count + 1;
         return Outcome {
             message: Message::Vector(id, count + 1),
-            due: 3,
+            due: PEERS_DUE,
             own,
         };
     }
     Outcome {
         message: Message::Extra(id, count),
-        due: 3,
+        due: PEERS_DUE,
         own,
     }
 }
@@ -128,7 +137,7 @@ fn remove(own: u32, counts: &mut [u8], id: u8) -> Outcome
         counts[at] = 0;
         return Outcome {
             message: Message::Disconnected(id),
-            due: 3,
+            due: PEERS_DUE,
             own,
         };
     }
@@ -167,9 +176,9 @@ pub fn read_record(
 {
     match due {
         0 => version_due(own, kind, number),
-        1 => id_due(own, kind, number),
-        2 => memory_due(own, kind, number),
-        3 => peers_due(own, counts, vectors, kind, number),
+        ID_DUE => id_due(own, kind, number),
+        MEMORY_DUE => memory_due(own, kind, number),
+        PEERS_DUE => peers_due(own, counts, vectors, kind, number),
         _ => closed(own),
     }
 }
