@@ -16,7 +16,8 @@
  * - Any numbers are answered. The answer's `number` is 0, or tells why the call was refused.
  * - A refused call changes nothing: the progress comes back as it went in, no count changes, no byte is taken, and `message`,
  *   `id` and `count` are 0.
- * - Nothing is allocated, and nothing is kept between calls. Nothing is called but memcpy, memmove and memset.
+ * - Nothing is allocated, and nothing is kept between calls. Nothing of the host's is called; a later build may use memcpy,
+ *   memmove and memset.
  * - Pointers are not null, also where the length beside them is 0, and point to as many bytes as the length says. The counts
  *   do not overlap with the input.
  * - Calls that are lent different counts may run at the same time.
@@ -94,13 +95,13 @@ enum ivshmem_protocol_number {
     IVSHMEM_PROTOCOL_ACCEPTED = 0,
     IVSHMEM_PROTOCOL_BAD_VECTORS = 1,  /* the configured number of vectors is not 1 to IVSHMEM_PROTOCOL_MAX_VECTORS */
     IVSHMEM_PROTOCOL_BAD_COUNTS = 2,   /* there are not IVSHMEM_PROTOCOL_IDS counts */
-    IVSHMEM_PROTOCOL_BAD_PROGRESS = 10 /* no stream leads to this progress with these counts: see ivshmem_protocol_read */
+    IVSHMEM_PROTOCOL_BAD_PROGRESS = 10 /* no stream with so many vectors leaves this progress and these counts */
 };
 
 /* How far the reading of a stream has come. All zero is the start. */
 typedef struct ivshmem_protocol_progress {
     uint32_t due;                               /* an ivshmem_protocol_due */
-    uint32_t own;                               /* the host's own id; 0 until it is known */
+    uint32_t own;                               /* the host's own id; 0 until it is known, and after a close before that */
     size_t held;                                /* how many bytes of a record that is not whole are held */
     uint8_t bytes[IVSHMEM_PROTOCOL_HELD_BYTES]; /* those bytes, from the front */
 } ivshmem_protocol_progress;
@@ -179,7 +180,7 @@ static inline const char *ivshmem_protocol_number_text(uint32_t number)
     case IVSHMEM_PROTOCOL_ACCEPTED: return "accepted";
     case IVSHMEM_PROTOCOL_BAD_VECTORS: return "the configured number of vectors is outside its range";
     case IVSHMEM_PROTOCOL_BAD_COUNTS: return "there is not one count for each id";
-    case IVSHMEM_PROTOCOL_BAD_PROGRESS: return "no stream leads to this progress with these counts";
+    case IVSHMEM_PROTOCOL_BAD_PROGRESS: return "no stream with so many vectors leaves this progress and these counts";
     default: return "an unknown number";
     }
 }

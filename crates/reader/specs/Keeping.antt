@@ -28,7 +28,7 @@ pub record Same (before after : State) : Type 0 where
   pub own : after .progress .own ≡ before .progress .own
   pub counts : after .counts ≡ before .counts
 
--- or one count is another, and all else is as it was
+-- or one count is another, and our own id and the others are as they were
 pub record OneCount (id n : ℕ) (before after : State) : Type 0 where
   pub own : after .progress .own ≡ before .progress .own
   pub counts : after .counts ≡ set (before .counts) id n

@@ -45,7 +45,9 @@ impl Reader {
     /// The messages of a piece of the stream, up to its end, without [`Message::More`]. What is behind the last whole record is
     /// held for the next piece.
     ///
-    /// A record is read when its message is asked for. Who stops earlier finds the bytes that are left in [`Messages::rest`].
+    /// A record is read when its message is asked for. Who stops before the end has to keep [`Messages::rest`], the bytes that are
+    /// left, and hand them in first next time: where they are lost, the next piece begins inside a record. A loop that may stop
+    /// goes over `messages.by_ref()`, so that `messages.rest()` is there behind it.
     pub fn messages<'reader, 'piece>(&'reader mut self, piece: &'piece [u8]) -> Messages<'reader, 'piece> {
         Messages { reader: self, rest: piece }
     }

@@ -51,7 +51,7 @@ impl Refusal {
         match self {
             Refusal::BadVectors => "the configured number of vectors is outside its range",
             Refusal::BadCounts => "there is not one count for each id",
-            Refusal::BadProgress => "no stream leads to this progress with these counts",
+            Refusal::BadProgress => "no stream with so many vectors leaves this progress and these counts",
             Refusal::Unknown(_) => "an unknown number",
         }
     }
