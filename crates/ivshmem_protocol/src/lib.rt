@@ -1,8 +1,14 @@
-// The library with which a host reads what the server of the older ivshmem device sends: numbers are plain and memory is lent.
+// The library with which a host reads what the server of the older ivshmem device sends, or is that server: numbers are plain and
+// memory is lent.
 use reader::Message;
 use reader::Progress;
+use server::Served;
+use server::Server;
+use server::Started;
 ghost use mathlib.Core.Path.{_≡_};
+ghost use lib.ListN.{length};
 ghost use Rattle.ivshmem_protocol.specs.Promises.{ReadsInNumbers, numbersOf};
+ghost use Rattle.server.specs.Serving.{Serves, start, join, leave};
 
 // A message in numbers: its own number, the id that it names, and the vectors that the id has then.
 pub struct MessageNumbers {
@@ -99,4 +105,28 @@ pub extern "C" fn ivshmem_protocol_read(
         taken: a.taken,
         progress: next,
     }
+}
+
+// `server::start`.
+#[no_mangle]
+pub extern "C" fn ivshmem_protocol_start(vectors: u64) -> Started
+    ensures { λ r. ⌜ r ≡ start vectors ⌝ }
+{
+    server::start(vectors)
+}
+
+// `server::join`.
+#[no_mangle]
+pub extern "C" fn ivshmem_protocol_join(server: Server, buffer: &mut [u8]) -> Served
+    ensures { λ r. ⌜ Serves (join server (length (now (buffer .entry)))) (now (buffer .entry)) (now (buffer .exit)) r ⌝ }
+{
+    server::join(server, buffer)
+}
+
+// `server::leave`.
+#[no_mangle]
+pub extern "C" fn ivshmem_protocol_leave(server: Server, id: u64, buffer: &mut [u8]) -> Served
+    ensures { λ r. ⌜ Serves (leave server id (length (now (buffer .entry)))) (now (buffer .entry)) (now (buffer .exit)) r ⌝ }
+{
+    server::leave(server, id, buffer)
 }

@@ -1,0 +1,95 @@
+-- The lowest free id, and how many ids are joined.
+use Prim.Native.Nat.{ℕ, zero, suc, _+_, _-_, _≤_, _<_}
+use mathlib.Core.Bool.{true, false}
+use mathlib.Core.List.{List, [], _∷_, _++_}
+use mathlib.Core.Path.{_≡_, refl, sym, ap, _∙_}
+use native.Mathlib.Omega.{arith}
+use lib.ListN.{length, length-append}
+use Rattle.common.proofs.TestLaws.{by-equal}
+use Rattle.reader.proofs.ReadLaws.{by-bool}
+use Rattle.reader.specs.Sizes.{ids}
+use Rattle.server.proofs.JoinedLaws.{joined-beyond}
+use Rattle.server.proofs.ListLaws.{each-append}
+use Rattle.server.specs.Clients.{isJoined, joinedAt, joinedBelow, clients, freeFrom, lowestFree, Lowest, LowestIsFree}
+use Rattle.server.specs.Messages.{eachOf}
+
+-- where an id is joined the search goes on behind it, else it ends there
+pub free-next : (n id joined : ℕ) → isJoined joined id ≡ true → freeFrom (suc n) id joined ≡ freeFrom n (suc id) joined
+unfolding freeFrom
+free-next n id joined e = rw e
+
+pub free-here : (n id joined : ℕ) → isJoined joined id ≡ false → freeFrom n id joined ≡ id
+unfolding freeFrom
+free-here zero id joined e = refl
+free-here (suc n) id joined e = rw e
+
+-- all ids before one are joined: the lowest free one is found from there on
+lowest-from : (n id joined : ℕ) → n + id ≡ ids → ((i : ℕ) → i < id → isJoined joined i ≡ true) → Lowest joined (freeFrom n id joined)
+unfolding freeFrom
+lowest-from zero id joined s b =
+    record { within = omega arith; free = joined-beyond joined id (omega arith); before = b }
+lowest-from (suc n) id joined s b =
+    by-bool (isJoined joined id)
+    (λ e. rw e (lowest-from n (suc id) joined (omega arith)
+    (λ i l. by-equal i id (λ same. rw same e) (λ other. b i (omega arith)))))
+    (λ e. rw e (record { within = omega arith; free = e; before = b }))
+
+pub lowest-is-free : LowestIsFree
+unfolding lowestFree
+lowest-is-free joined = lowest-from ids 0 joined (omega arith) (λ i l. absurd (omega arith))
+
+-- the joined ids below a number: one turn more
+module _ (joined : ℕ) where
+  pub at-joined : (id : ℕ) → isJoined joined id ≡ true → joinedAt joined id ≡ id ∷ []
+  unfolding joinedAt
+  at-joined id e = rw e
+
+  pub at-free : (id : ℕ) → isJoined joined id ≡ false → joinedAt joined id ≡ []
+  unfolding joinedAt
+  at-free id e = rw e
+
+  -- what holds of both holds of it
+  pub by-joined : (P : List ℕ → Type 0) (id : ℕ) → (isJoined joined id ≡ true → P (id ∷ [])) → (isJoined joined id ≡ false → P [])
+      → P (joinedAt joined id)
+  by-joined P id f g = by-bool (isJoined joined id) (λ e. rw (at-joined id e) (f e)) (λ e. rw (at-free id e) (g e))
+
+  pub below-next : (n : ℕ) → joinedBelow (suc n) joined ≡ joinedBelow n joined ++ joinedAt joined n
+  unfolding joinedBelow
+  below-next n = refl
+
+  -- there are no more of them than numbers,
+  below-length : (n : ℕ) → length (joinedBelow n joined) ≤ n
+  unfolding joinedBelow
+  below-length zero = omega arith
+  below-length (suc n) =
+      rw length-append
+      (by-joined (λ l. length (joinedBelow n joined) + length l ≤ suc n) n (λ e. omega (arith, below-length n))
+      (λ e. omega (arith, below-length n)))
+
+  -- and fewer where one is free
+  fewer : (n id : ℕ) → id < n → isJoined joined id ≡ false → length (joinedBelow n joined) < n
+  unfolding joinedBelow
+  fewer zero id l e = absurd (omega arith)
+  fewer (suc n) id l e =
+      rw length-append
+      (by-equal id n (λ same. rw (at-free n (rw same at e)) (omega (arith, below-length n)))
+      (λ other.
+      by-joined (λ l. length (joinedBelow n joined) + length l < suc n) n (λ _. omega (arith, fewer n id (omega arith) e))
+      (λ _. omega (arith, fewer n id (omega arith) e))))
+
+  pub clients-fewer : (id : ℕ) → id < ids → isJoined joined id ≡ false → length (clients joined) ≤ ids - 1
+  clients-fewer id l e = omega (arith, fewer ids id l e)
+
+  pub clients-within : length (clients joined) ≤ ids
+  clients-within = below-length ids
+
+-- what is alike for each joined id is alike for all of them
+pub each-joined : {A : Type 0} (joined : ℕ) (f g : ℕ → List A) → ((id : ℕ) → isJoined joined id ≡ true → f id ≡ g id) → (n : ℕ)
+    → eachOf f (joinedBelow n joined) ≡ eachOf g (joinedBelow n joined)
+unfolding joinedBelow eachOf
+each-joined joined f g same zero = refl
+each-joined joined f g same (suc n) =
+    rw (each-append f (joinedBelow n joined) (joinedAt joined n), each-append g (joinedBelow n joined) (joinedAt joined n),
+    each-joined joined f g same n)
+    (by-joined joined (λ l. eachOf g (joinedBelow n joined) ++ eachOf f l ≡ eachOf g (joinedBelow n joined) ++ eachOf g l) n
+    (λ e. rw (same n e)) (λ e. refl))

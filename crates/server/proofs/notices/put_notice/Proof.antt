@@ -1,0 +1,67 @@
+-- `server::notices::put_notice` meets its contract.
+use Prim.Native.Nat.{_*_}
+use mathlib.Core.Bool.{true}
+use mathlib.Core.Path.{_≡_, refl, sym, _∙_}
+use native.Mathlib.Omega.{arith}
+use lib.ListN.{length}
+use Rattle.reader.proofs.SizeLaws.{ids-byte}
+use Rattle.server.proofs.RoomLaws.{times-length, notice-one, notice-none}
+use Rattle.server.specs.Clients.{isJoined, joinedAt}
+use Rattle.server.specs.Parts.{noticeTo, noticesBytes}
+use borrow.Author.Needs.{needs}
+use Rattle.server.proofs.notices.put_notice.Statement.{statement}
+use Rattle.server.proofs.notices.put_notice.Tie as tie
+
+is-joined-requires : tie.Need-is-joined-requires
+is-joined-requires c κs = search needs
+
+cast-notice-to : tie.Need-cast-notice-to
+cast-notice-to c = omega (arith, ids-byte)
+
+notice-to-requires : tie.Need-notice-to-requires
+notice-to-requires c κs = search needs
+
+put-times-requires : tie.Need-put-times-requires
+put-times-requires c κs =
+    let a = c .before .before .before .before .before .args in
+    let e : isJoined (a .joined) (a .client) ≡ true = sym (c .before .before .before .is-joined .ensures) ∙ c .before .before .if1 .taken in
+    let n : length (noticesBytes (a .notice) (joinedAt (a .joined) (a .client))) ≡ 10 * a .notice .times =
+    rw (notice-one (a .notice) (a .joined) (a .client) e) (times-length (a .notice .times) (noticeTo (a .notice) (a .client))) in
+    omega arith
+
+add-result : tie.Need-add-result
+add-result c =
+    let a = c .before .before .before .before .before .before .before .before .before .args in
+    let e : isJoined (a .joined) (a .client) ≡ true = sym (c .before .before .before .before .before .before .before .is-joined .ensures) ∙ c .before .before .before .before .before .before .if1 .taken in
+    let n : length (noticesBytes (a .notice) (joinedAt (a .joined) (a .client))) ≡ 10 * a .notice .times =
+    rw (notice-one (a .notice) (a .joined) (a .client) e) (times-length (a .notice .times) (noticeTo (a .notice) (a .client))) in
+    omega arith
+
+same-length : tie.Need-same-length
+same-length c = search needs
+
+returns : tie.Need-returns
+returns c =
+    let a = c .before .before .before .before .before .before .before .before .before .args in
+    let e : isJoined (a .joined) (a .client) ≡ true = sym (c .before .before .before .before .before .before .before .is-joined .ensures) ∙ c .before .before .before .before .before .before .if1 .taken in
+    let n : length (noticesBytes (a .notice) (joinedAt (a .joined) (a .client))) ≡ 10 * a .notice .times =
+    rw (notice-one (a .notice) (a .joined) (a .client) e) (times-length (a .notice .times) (noticeTo (a .notice) (a .client))) in
+    (c .before .before .before .put-times .ensures ∙ rw (c .before .before .before .before .before .notice-to .ensures, notice-one (a .notice) (a .joined) (a .client) e), omega arith)
+
+returns-2 : tie.Need-returns-2
+returns-2 c =
+    let a = c .before .before .before .args in
+    rw (notice-none (a .notice) (a .joined) (a .client) (sym (c .before .is-joined .ensures) ∙ c .if1 .left)) (refl, omega arith)
+
+pub put-notice-spec : {M : Type 1} → statement M
+put-notice-spec =
+    tie.close
+    (tie.spec
+    is-joined-requires
+    cast-notice-to
+    notice-to-requires
+    put-times-requires
+    add-result
+    same-length
+    returns
+    returns-2)

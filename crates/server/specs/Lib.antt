@@ -1,0 +1,5 @@
+pub mod Clients
+pub mod Messages
+pub mod Serving
+pub mod Parts
+pub mod Histories
