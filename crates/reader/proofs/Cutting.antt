@@ -207,7 +207,7 @@ module _ (vectors : ℕ) where
   unfolding readPiece
   whole-piece piece s eight e = piece-is-bytes (suc (length piece)) piece s (omega arith) eight e
 
-  pieces-are-bytes : (pieces : List (List ℕ)) (s : State) → Eight s → refusal vectors s ≡ 0
+  pub pieces-are-bytes : (pieces : List (List ℕ)) (s : State) → Eight s → refusal vectors s ≡ 0
       → readPieces vectors s pieces ≡ byBytes vectors s (joined pieces)
   unfolding readPieces joined fedAll
   pieces-are-bytes [] s eight e = refl

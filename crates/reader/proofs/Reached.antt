@@ -82,7 +82,7 @@ module _ (wanted : List ℕ) (i n : ℕ) (l : i < length wanted) where
       ∙ append-assoc (take i wanted) (getD wanted i 0 ∷ []) (replicate n 0))
 
 -- up to a number, step by step
-climb : (P : ℕ → Type 0) (most : ℕ) → P 0 → ((n : ℕ) → n < most → P n → P (suc n)) → (n : ℕ) → n ≤ most → P n
+pub climb : (P : ℕ → Type 0) (most : ℕ) → P 0 → ((n : ℕ) → n < most → P n → P (suc n)) → (n : ℕ) → n ≤ most → P n
 climb P most first next zero l = first
 climb P most first next (suc n) l = next n l (climb P most first next n (omega arith))
 

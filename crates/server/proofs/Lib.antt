@@ -5,3 +5,6 @@ pub mod SetsLaws
 pub mod MessageLaws
 pub mod RoomLaws
 pub mod ServeLaws
+pub mod RecordLaws
+pub mod TellLaws
+pub mod Following

@@ -1,10 +1,11 @@
 -- C-18: the messages of a join and of a leave (R99, R100), and their bytes (R101).
-use Prim.Native.Nat.{ℕ, zero, suc, _+_, _-_, _*_, _^_}
+use Prim.Native.Nat.{ℕ, _+_, _-_, _*_, _<_, _^_}
 use mathlib.Core.List.{List, [], _∷_, _++_, map}
+use mathlib.Core.Path.{_≡_}
 use lib.IntN.{ℤ, pos, negsuc}
 use lib.ListN.{replicate}
 use Rattle.common.specs.Bytes.{bytes}
-use Rattle.reader.specs.Records.{Record, recordOf}
+use Rattle.reader.specs.Records.{Record, recordOf, recordIn}
 use Rattle.reader.specs.Sizes.{ids, mostVectors}
 
 -- a record for a client
@@ -65,6 +66,14 @@ unsigned (negsuc n) = 2 ^ 64 - 1 - n
 
 unfoldable pub bytesOf : Record → List ℕ
 bytesOf r = r .kind ∷ bytes 8 (unsigned (r .value))
+
+-- C-17 reads it back, where its number is one of 64 bits.
+abbrev pub Signed : ℤ → Type 0
+Signed (pos n) = n < 2 ^ 63
+Signed (negsuc n) = n < 2 ^ 63
+
+abbrev pub RecordsComeBack : Type 0
+RecordsComeBack = (r : Record) → Signed (r .value) → recordIn (bytesOf r) ≡ r
 
 unfoldable pub sentBytes : Sent → List ℕ
 sentBytes m = m .client ∷ bytesOf (m .said)
