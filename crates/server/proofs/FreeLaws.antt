@@ -1,17 +1,20 @@
 -- The lowest free id, and how many ids are joined.
-use Prim.Native.Nat.{ℕ, zero, suc, _+_, _-_, _≤_, _<_}
-use mathlib.Core.Bool.{true, false}
-use mathlib.Core.List.{List, [], _∷_, _++_}
+use Prim.Native.Nat.{ℕ, zero, suc, _+_, _-_, _/_, _≤_, _<_, _^_}
+use mathlib.Core.Bool.{true, false, not}
+use mathlib.Core.List.{List, [], _∷_, _++_, append-nil}
 use mathlib.Core.Path.{_≡_, refl, sym, ap, _∙_}
 use native.Mathlib.Omega.{arith}
+use lib.Dec.{eqb, ltb}
 use lib.ListN.{length, length-append}
-use Rattle.common.proofs.TestLaws.{by-equal}
-use Rattle.reader.proofs.ReadLaws.{by-bool}
+use borrow.Author.Tests.{eqb-true, lt-ltb, ltb-true, not-false}
+use Rattle.common.proofs.TestLaws.{and-left, by-equal}
+use Rattle.reader.proofs.ReadLaws.{by-bool, by-less}
 use Rattle.reader.specs.Sizes.{ids}
-use Rattle.server.proofs.JoinedLaws.{joined-beyond}
+use Rattle.server.proofs.JoinedLaws.{joined-beyond, bits-gone}
 use Rattle.server.proofs.ListLaws.{each-append}
 use Rattle.server.specs.Clients.{isJoined, joinedAt, joinedBelow, clients, freeFrom, lowestFree, Lowest, LowestIsFree}
 use Rattle.server.specs.Messages.{eachOf}
+use Rattle.server.specs.Parts.{anyFrom}
 
 -- where an id is joined the search goes on behind it, else it ends there
 pub free-next : (n id joined : ℕ) → isJoined joined id ≡ true → freeFrom (suc n) id joined ≡ freeFrom n (suc id) joined
@@ -93,3 +96,25 @@ each-joined joined f g same (suc n) =
     each-joined joined f g same n)
     (by-joined joined (λ l. eachOf g (joinedBelow n joined) ++ eachOf f l ≡ eachOf g (joinedBelow n joined) ++ eachOf g l) n
     (λ e. rw (same n e)) (λ e. refl))
+
+-- where there are joined ids from one on it is one of them or before them, and where there are none those below it are all
+pub any-below : (joined id : ℕ) → anyFrom joined id ≡ true → id < ids
+unfolding anyFrom
+any-below joined id e = ltb-true id ids (and-left (ltb id ids) (not (eqb (joined / 2 ^ id) 0)) e)
+
+module _ (joined id : ℕ) (e : anyFrom joined id ≡ false) where
+  nothing-left : id < ids → joined / 2 ^ id ≡ 0
+  unfolding anyFrom
+  nothing-left h = eqb-true _ _ (not-false (eqb (joined / 2 ^ id) 0) (rw (lt-ltb id ids h) at e))
+
+  no-more : (j : ℕ) → id ≤ j → isJoined joined j ≡ false
+  no-more j l = by-less id ids (λ h. bits-gone joined id j l (nothing-left h)) (λ h. joined-beyond joined j (omega arith))
+
+  same-below : (d : ℕ) → joinedBelow (d + id) joined ≡ joinedBelow id joined
+  same-below zero = let n : 0 + id ≡ id = omega arith in rw n
+  same-below (suc d) =
+      let n : suc d + id ≡ suc (d + id) = omega arith in
+      rw (n, below-next joined (d + id), at-free joined (d + id) (no-more (d + id) (omega arith)), append-nil) (same-below d)
+
+  pub all-below : id ≤ ids → clients joined ≡ joinedBelow id joined
+  all-below l = let n : ids - id + id ≡ ids = omega arith in rw n at (same-below (ids - id))

@@ -2,13 +2,14 @@
 use Prim.Native.Nat.{ℕ, zero, suc, _+_, _-_, _*_, _/_, _%_, _^_, _≤_, _<_}
 use mathlib.Core.Bool.{true, false, _&&_}
 use mathlib.Core.Path.{_≡_, refl, sym, ap, _∙_}
-use native.Mathlib.Nat.{pow-suc}
+use native.Mathlib.Nat.{pow-suc, zero-div}
 use native.Mathlib.Omega.{arith}
 use lib.Dec.{eqb, ltb}
 use lib.Pow.{pow-lt, shr-shr}
 use borrow.Author.Tests.{eqb-true, eqb-false, eq-eqb, ne-eqb, lt-ltb, ltb-true, le-ltb}
 use Rattle.common.specs.Bytes.{bit}
 use Rattle.common.proofs.TestLaws.{and-left, and-false}
+use Rattle.reader.proofs.ReadLaws.{by-bool}
 use Rattle.reader.specs.Sizes.{ids}
 use Rattle.server.specs.Clients.{isJoined, joinedWith, joinedWithout}
 
@@ -75,6 +76,18 @@ clear-other i j x n e =
     let back : x - 2 ^ i + 2 ^ i ≡ x = omega arith in
     sym (set-other i j (x - 2 ^ i) n (clear-same i x e)) ∙ rw back
 
+-- a number is told by its bits
+bits-same : (k x y : ℕ) → x < 2 ^ k → y < 2 ^ k → ((j : ℕ) → j < k → bit j x ≡ bit j y) → x ≡ y
+bits-same zero x y f g same = omega arith
+bits-same (suc k) x y f g same =
+    let halves : x / 2 ≡ y / 2 =
+    bits-same k (x / 2) (y / 2) (omega (arith, twice k)) (omega (arith, twice k))
+    (λ j l. sym (bit-suc j x) ∙ same (suc j) (omega arith) ∙ bit-suc j y) in
+    let ends : x % 2 ≡ y % 2 =
+    by-bool (bit 0 x) (λ e. odd x e ∙ sym (odd y (sym (same 0 (omega arith)) ∙ e)))
+    (λ e. even x e ∙ sym (even y (sym (same 0 (omega arith)) ∙ e))) in
+    omega arith
+
 -- an id that is joined is one of those there are
 pub joined-below : (x i : ℕ) → isJoined x i ≡ true → i < ids
 unfolding isJoined
@@ -87,6 +100,19 @@ joined-beyond x i h = rw (le-ltb i ids h)
 pub is-bit : (x i : ℕ) → i < ids → isJoined x i ≡ bit i x
 unfolding isJoined
 is-bit x i h = rw (lt-ltb i ids h)
+
+pub same-bits : (x y : ℕ) → x < 2 ^ 64 → y < 2 ^ 64 → ((i : ℕ) → isJoined x i ≡ isJoined y i) → x ≡ y
+unfolding ids
+same-bits x y f g same = bits-same 64 x y f g (λ i l. sym (is-bit x i l) ∙ same i ∙ is-bit y i l)
+
+-- above all bits of a number
+pub bits-gone : (x i j : ℕ) → i ≤ j → x / 2 ^ i ≡ 0 → isJoined x j ≡ false
+unfolding isJoined
+bits-gone x i j l e =
+    let n : i + (j - i) ≡ j = omega arith in
+    let q : x / 2 ^ i / 2 ^ (j - i) ≡ 0 = rw e (zero-div (2 ^ (j - i))) in
+    let z : x / 2 ^ j ≡ 0 = rw n at (sym (shr-shr x i (j - i)) ∙ q) in
+    and-false (ltb j ids) (bit j x) (rw z)
 
 -- an id joins
 module _ (x i : ℕ) (h : i < ids) (e : isJoined x i ≡ false) where

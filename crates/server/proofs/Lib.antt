@@ -8,3 +8,5 @@ pub mod ServeLaws
 pub mod RecordLaws
 pub mod TellLaws
 pub mod Following
+pub mod Reached
+pub mod Cases

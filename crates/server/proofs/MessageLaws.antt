@@ -80,8 +80,14 @@ module _ (vectors joined id : ℕ) (h : id < ids) where
   unfolding allBytes toJoiner eachOf
   joiner-bytes =
       each-map sentBytes (to id) (toJoiner vectors (clients joined) id)
-      ∙ rw (sent-small id 0 0 (omega arith), sent-small id 0 id small, sent-memory id,
-      each-append (toOne id) (eachOf (vectorsOf vectors) (clients joined)) (vectorsOf vectors id), known-bytes, own-bytes)
+      ∙ rw (
+        sent-small id 0 0 (omega arith),
+        sent-small id 0 id small,
+        sent-memory id,
+        each-append (toOne id) (eachOf (vectorsOf vectors) (clients joined)) (vectorsOf vectors id),
+        known-bytes,
+        own-bytes,
+      )
 
   pub join-bytes : allBytes (joinMessages vectors (clients joined) id) ≡ joinBytes joined id vectors
   unfolding joinMessages

@@ -47,8 +47,11 @@ module _ (joined id vectors : ℕ) (h : id < ids) (free : isJoined joined id ≡
   unfolding bufferBytes mostSent
   join-room =
       let most : vectors * length (clients joined) ≤ mostVectors * (ids - 1) = mul-le-mul (vectors-few vectors range) (clients-fewer joined id h free) in
-      rw (join-length joined id vectors, notices-length (noticeOf 1 id vectors true) (clients joined),
-      notices-length (noticeOf 1 id vectors false) (clients joined)) (omega (arith, vectors-few vectors range))
+      rw (
+        join-length joined id vectors,
+        notices-length (noticeOf 1 id vectors true) (clients joined),
+        notices-length (noticeOf 1 id vectors false) (clients joined),
+      ) (omega (arith, vectors-few vectors range))
 
 pub leave-room : (joined id : ℕ) → id < ids → isJoined joined id ≡ false
     → length (noticesBytes (noticeOf 0 id 1 false) (clients joined)) ≤ bufferBytes

@@ -1,13 +1,13 @@
 -- The calls by their cases, and what an accepted or a refused one leaves.
 use Prim.Native.Nat.{ℕ, _*_, _≤_, _<_}
-use mathlib.Core.Bool.{Bool, true, false, not}
+use mathlib.Core.Bool.{true, false, not}
 use mathlib.Core.List.{List, [], _∷_}
 use mathlib.Core.Path.{_≡_, refl, sym, ap, _∙_}
 use native.Mathlib.Omega.{arith}
 use lib.Dec.{ltb}
 use lib.ListN.{length}
 use lib.Seq.{sets}
-use borrow.Author.Tests.{eq-eqb, ne-eqb, lt-ltb, le-ltb, ltb-false}
+use borrow.Author.Tests.{eq-eqb, ne-eqb, lt-ltb, le-ltb, ltb-false, not-false}
 use Rattle.common.proofs.TestLaws.{first-zero}
 use Rattle.common.specs.Lists.{over}
 use Rattle.common.specs.Tests.{row}
@@ -33,10 +33,6 @@ pub serves-refused : (number : ℕ) (s : Server) (l : List ℕ) → Serves (refu
 unfolding over allBytes eachOf
 serves-refused number s l = record { answer = refl; buffer = refl }
 
-held : (b : Bool) → not b ≡ false → b ≡ true
-held true e = refl
-held false e = sym e
-
 -- a call that is refused at first, or goes on
 module _ (s : Server) (room : ℕ) where
   pub join-refused : (refusal s room ≡ 0 → ⊥) → join s room ≡ refusedBy (refusal s room) s
@@ -58,7 +54,7 @@ module _ (s : Server) (room : ℕ) where
   -- what is known where it goes on
   pub in-range : refusal s room ≡ 0 → inRange (s .vectors) ≡ true
   unfolding refusal
-  in-range e = held (inRange (s .vectors)) (first-zero 9 (not (inRange (s .vectors))) (row 11 (ltb room bufferBytes) ∷ []) e .0)
+  in-range e = not-false (inRange (s .vectors)) (first-zero 9 (not (inRange (s .vectors))) (row 11 (ltb room bufferBytes) ∷ []) e .0)
 
   pub has-room : refusal s room ≡ 0 → bufferBytes ≤ room
   unfolding refusal

@@ -181,8 +181,12 @@ module _ (vectors : ℕ) (good : refusal vectors start ≡ 0) (joined own : ℕ)
 
   front-next : (n : ℕ) → isJoined joined n ≡ true → front (suc n) ≡ front n ++ vectorsOf vectors n
   front-next n e =
-      rw (below-next joined n, each-append (vectorsOf vectors) (joinedBelow n joined) (joinedAt joined n), at-joined joined n e,
-      each-one (vectorsOf vectors) n)
+      rw (
+        below-next joined n,
+        each-append (vectorsOf vectors) (joinedBelow n joined) (joinedAt joined n),
+        at-joined joined n e,
+        each-one (vectorsOf vectors) n,
+      )
 
   front-same : (n : ℕ) → isJoined joined n ≡ false → front (suc n) ≡ front n
   unfolding eachOf

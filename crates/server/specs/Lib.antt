@@ -3,3 +3,4 @@ pub mod Messages
 pub mod Serving
 pub mod Parts
 pub mod Histories
+pub mod Reached

@@ -1,12 +1,18 @@
 -- What the parts of the code promise each other.
-use Prim.Native.Nat.{ℕ}
-use mathlib.Core.Bool.{Bool, true, false, cond}
+use Prim.Native.Nat.{ℕ, _/_, _^_}
+use mathlib.Core.Bool.{Bool, true, false, cond, not, _&&_}
 use mathlib.Core.List.{List, _∷_, _++_}
+use lib.Dec.{eqb, ltb}
 use lib.ListN.{replicate}
+use Rattle.reader.specs.Sizes.{ids}
 use Rattle.server.specs.declared.messages.Message.{Message}
 use Rattle.server.specs.declared.notices.Notice.{Notice}
 use Rattle.server.specs.Clients.{clients}
 use Rattle.server.specs.Messages.{eachOf}
+
+-- there are joined ids, from this one on
+unfoldable pub anyFrom : (joined id : ℕ) → Bool
+anyFrom joined id = ltb id ids && not (eqb (joined / 2 ^ id) 0)
 
 abbrev pub messageOf : (client kind low high : ℕ) → Message
 messageOf client kind low high = record { client = client; kind = kind; low = low; high = high }

@@ -4,6 +4,7 @@ ghost use Prim.Native.Nat.{_+_, _<_, _^_};
 ghost use mathlib.Core.Bool.{true, false};
 ghost use Rattle.reader.specs.Sizes.{ids};
 ghost use Rattle.server.specs.Clients.{isJoined, lowestFree, joinedWith, joinedWithout};
+ghost use Rattle.server.specs.Parts.{anyFrom};
 
 // The ids are those below this number.
 pub const IDS: u64 = 64;
@@ -15,6 +16,16 @@ pub fn is_joined(joined: u64, id: u64) -> bool
         return false;
     }
     (joined >> id) % 2 == 1
+}
+
+// There are joined ids, from this one on.
+pub fn any_from(joined: u64, id: u64) -> bool
+    ensures { λ r. ⌜ r ≡ anyFrom joined id ⌝ }
+{
+    if id >= IDS {
+        return false;
+    }
+    (joined >> id) != 0
 }
 
 // The lowest id that is free; where none is, the number of ids.

@@ -52,7 +52,7 @@ fn put_notice(out: &mut [u8], n: usize, joined: u64, notice: Notice, client: u64
     n
 }
 
-// The messages for each client.
+// The messages for each client, up to the last one that is joined.
 pub fn put_notices(out: &mut [u8], n: usize, joined: u64, notice: Notice) -> usize
     requires { ⌜ 10 * n + length (noticesBytes notice (clients joined)) ≤ length (now out) ⌝ }
     ensures { λ r. ⌜ (now (out .exit) ≡ sets (now (out .entry)) (10 * n) (noticesBytes notice (clients joined)))
@@ -60,7 +60,7 @@ pub fn put_notices(out: &mut [u8], n: usize, joined: u64, notice: Notice) -> usi
 {
     let mut next = n;
     let mut client = 0;
-    while client < clients::IDS {
+    while clients::any_from(joined, client) {
         next = put_notice(out, next, joined, notice, client);
         client += 1;
     }

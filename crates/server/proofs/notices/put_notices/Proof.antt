@@ -1,12 +1,14 @@
 -- `server::notices::put_notices` meets its contract. The loop's invariant: the messages for the clients so far stand from their place on.
 use Prim.Native.Nat.{_+_, _-_, _*_, _≤_, _<_}
 use mathlib.Core.List.{_++_}
-use mathlib.Core.Path.{_≡_, refl, ap, _∙_}
+use mathlib.Core.Path.{_≡_, refl, sym, ap, _∙_}
 use native.Mathlib.Omega.{arith}
 use lib.ListN.{length, length-append}
 use lib.Seq.{sets, length-sets}
+use borrow.Author.Needs.{needs}
 use Rattle.reader.proofs.SizeLaws.{ids-byte}
 use Rattle.reader.specs.Sizes.{ids}
+use Rattle.server.proofs.FreeLaws.{any-below, all-below}
 use Rattle.server.proofs.RoomLaws.{notices-next, notices-room}
 use Rattle.server.proofs.SetsLaws.{sets-behind}
 use Rattle.server.specs.Clients.{joinedAt, joinedBelow, clients}
@@ -30,42 +32,44 @@ loop-holds : tie.Need-loop-holds Inv-loop μ-loop
 unfolding eachOf joinedBelow
 loop-holds c = (omega arith, omega arith, refl, refl, omega arith)
 
+any-from-requires : tie.Need-any-from-requires Inv-loop μ-loop
+any-from-requires c κs = search needs
+
 put-notice-requires : tie.Need-put-notice-requires Inv-loop μ-loop
-unfolding ids
 put-notice-requires c κs =
-    let a = c .before .before .before .before .args in
-    let l = c .before .before .loop in
-    let h : l .client < ids = c .before .loop-test .taken in
+    let a = c .before .before .before .before .before .args in
+    let l = c .before .before .before .loop in
+    let h : l .client < ids = any-below _ _ (sym (c .before .before .any-from .ensures) ∙ c .before .if1 .taken) in
     (h, omega (arith, notices-room (a .notice) (a .joined) (l .client) h))
 
 add-client : tie.Need-add-client Inv-loop μ-loop
-unfolding ids
-add-client c = omega (arith, ids-byte)
+add-client c = let h = any-below _ _ (sym (c .before .before .before .before .before .any-from .ensures) ∙ c .before .before .before .before .if1 .taken) in omega (arith, ids-byte, h)
 
 loop-less : tie.Need-loop-less Inv-loop μ-loop
-unfolding ids
-loop-less c = omega arith
+loop-less c = let h = any-below _ _ (sym (c .before .before .before .before .before .any-from .ensures) ∙ c .before .before .before .before .if1 .taken) in omega (arith, h)
 
 loop-again : tie.Need-loop-again Inv-loop μ-loop
-unfolding ids
 loop-again c =
-    let a = c .before .before .before .before .before .before .before .args in
-    let l = c .before .before .before .before .before .loop in
+    let a = c .before .before .before .before .before .before .before .before .args in
+    let l = c .before .before .before .before .before .before .loop in
+    let h : l .client < ids = any-below _ _ (sym (c .before .before .before .before .before .any-from .ensures) ∙ c .before .before .before .before .if1 .taken) in
     let new = noticesBytes (a .notice) (joinedAt (a .joined) (l .client)) in
     let old = noticesBytes (a .notice) (joinedBelow (l .client) (a .joined)) in
     let all = noticesBytes (a .notice) (joinedBelow (l .client + 1) (a .joined)) in
     let next : all ≡ old ++ new = notices-next (a .notice) (a .joined) (l .client) in
+    let turn : c .before .before .put-notice .last .0 ≡ sets (l .out) (10 * l .next) new = c .before .before .put-notice .ensures .0 in
     let so : c .before .before .put-notice .last .0 ≡ sets (a .out .now) (10 * a .n) all =
-    c .before .before .put-notice .ensures .0 ∙ rw (l .inv .3, next) (sets-behind old new (a .out .now) (10 * a .n) _ (l .inv .4)) in
+    turn ∙ rw (l .inv .3, next) (sets-behind old new (a .out .now) (10 * a .n) _ (l .inv .4)) in
     let long : length all ≡ length old + length new = ap length next ∙ length-append old new in
     (omega arith, omega arith, ap length so ∙ length-sets (a .out .now) (10 * a .n) all, so, omega (arith, c .before .before .put-notice .ensures .1))
 
 same-length : tie.Need-same-length Inv-loop μ-loop
-same-length c = c .before .loop .inv .2
+same-length c = c .before .before .loop .inv .2
 
 returns : tie.Need-returns Inv-loop μ-loop
-unfolding ids
-returns c = let e : c .before .loop .client ≡ ids = omega arith in (c .before .loop .inv .3 ∙ rw e, c .before .loop .inv .4 ∙ rw e)
+returns c =
+    let l = c .before .before .loop in
+    rw (all-below (c .before .before .before .before .args .joined) (l .client) (sym (c .before .any-from .ensures) ∙ c .if1 .left) (l .inv .0)) (l .inv .3, l .inv .4)
 
 pub put-notices-spec : {M : Type 1} → statement M
 put-notices-spec =
@@ -74,6 +78,7 @@ put-notices-spec =
     Inv-loop
     μ-loop
     loop-holds
+    any-from-requires
     put-notice-requires
     add-client
     loop-less

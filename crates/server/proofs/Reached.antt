@@ -1,0 +1,157 @@
+-- The theorems of specs/Reached: all ids join, and then those leave that the state does not have.
+use Prim.Native.Nat.{ℕ, zero, suc, _+_, _-_, _/_, _%_, _≤_, _<_, _^_}
+use mathlib.Core.Bool.{Bool, true, false, cond, _&&_, true≢false}
+use mathlib.Core.List.{List, [], _∷_, _++_}
+use mathlib.Core.Path.{_≡_, refl, sym, ap, _∙_}
+use native.Mathlib.Omega.{arith}
+use lib.Dec.{ltb}
+use borrow.Author.Tests.{lt-ltb, le-ltb, ltb-true}
+use Rattle.common.proofs.TestLaws.{by-equal, alike}
+use Rattle.reader.proofs.Reached.{climb}
+use Rattle.reader.proofs.ReadLaws.{by-bool, by-less}
+use Rattle.reader.specs.Sizes.{ids}
+use Rattle.server.specs.declared.Server.{Server}
+use Rattle.server.proofs.FreeLaws.{lowest-is-free}
+use Rattle.server.proofs.JoinedLaws.{same-bits, joined-below, joined-beyond, none-joined, with-same, with-other, with-fits, without-same, without-other, joined-le}
+use Rattle.server.proofs.ServeLaws.{joins-free, joins-full, leaves-joined, leaves-free}
+use Rattle.server.specs.Clients.{isJoined, joinedWith, joinedWithout, lowestFree}
+use Rattle.server.specs.Histories.{Act, joining, leaving, outcome}
+use Rattle.server.specs.Reached.{after, Reaches, EveryStateIsReached, Sound, ReachedIsSound}
+use Rattle.server.specs.Serving.{Outcome, serverOf}
+
+after-then : (first second : List Act) (s : Server) → after s (first ++ second) ≡ after (after s first) second
+unfolding after
+after-then [] second s = refl
+after-then (a ∷ first) second s = after-then first second (outcome a s .server)
+
+-- a history that leaves a set of ids, told by a test
+record Leaves (vectors : ℕ) (t : ℕ → Bool) : Type 0 where
+  history : List Act
+  joined : ℕ
+  left : after (serverOf 0 vectors) history ≡ serverOf joined vectors
+  fits : joined < 2 ^ 64
+  are : (id : ℕ) → isJoined joined id ≡ t id
+
+-- one call more
+one-more : (vectors : ℕ) (t u : ℕ → Bool) (l : Leaves vectors t) (a : Act) (next : ℕ)
+    → outcome a (serverOf (l .joined) vectors) .server ≡ serverOf next vectors → next < 2 ^ 64 → ((id : ℕ) → isJoined next id ≡ u id)
+    → Leaves vectors u
+unfolding after
+one-more vectors t u l a next e f are =
+    record {
+      history = l .history ++ a ∷ [];
+      joined = next;
+      left = after-then (l .history) (a ∷ []) (serverOf 0 vectors) ∙ rw (l .left) e;
+      fits = f;
+      are = are;
+    }
+
+-- with another test that comes to the same
+retold : {vectors : ℕ} (t u : ℕ → Bool) → ((id : ℕ) → t id ≡ u id) → Leaves vectors t → Leaves vectors u
+retold t u same l =
+    record { history = l .history; joined = l .joined; left = l .left; fits = l .fits; are = λ id. l .are id ∙ same id }
+
+-- the first n ids are joined
+module _ (vectors : ℕ) where
+  abbrev First : ℕ → Type 0
+  First n = Leaves vectors (λ id. ltb id n)
+
+  first-none : First 0
+  unfolding after
+  first-none =
+      record {
+        history = [];
+        joined = 0;
+        left = refl;
+        fits = omega arith;
+        are = λ id. none-joined id ∙ sym (le-ltb id 0 (omega arith));
+      }
+
+  -- the next one is the lowest that is free
+  lowest-next : (n : ℕ) (l : First n) → lowestFree (l .joined) ≡ n
+  lowest-next n l =
+      let lowest = lowest-is-free (l .joined) in
+      let not-below : lowestFree (l .joined) < n → ⊥ =
+      λ h. true≢false (sym (l .are (lowestFree (l .joined)) ∙ lt-ltb _ n h) ∙ lowest .free) in
+      let not-above : n < lowestFree (l .joined) → ⊥ = λ h. true≢false (sym (lowest .before n h) ∙ l .are n ∙ le-ltb n n (omega arith)) in
+      omega arith
+
+  first-more : (n : ℕ) → n < ids → First n → First (suc n)
+  first-more n h l =
+      let free : isJoined (l .joined) n ≡ false = l .are n ∙ le-ltb n n (omega arith) in
+      let at = lowest-next n l in
+      one-more vectors (λ id. ltb id n) (λ id. ltb id (suc n)) l joining (joinedWith (l .joined) n)
+      (ap (λ (o : Outcome). o .server) (joins-free (serverOf (l .joined) vectors) (rw at h)) ∙ rw at) (with-fits (l .joined) n h free (l .fits))
+      (λ id.
+      by-equal id n (λ same. rw same (with-same (l .joined) n h free ∙ sym (lt-ltb n (suc n) (omega arith))))
+      (λ o. with-other (l .joined) n h free id o ∙ l .are id ∙ below-alike id n o))
+    where
+      below-alike : (id n : ℕ) → (id ≡ n → ⊥) → ltb id n ≡ ltb id (suc n)
+      below-alike id n o =
+          by-less id n (λ l. lt-ltb id n l ∙ sym (lt-ltb id (suc n) (omega arith))) (λ l. le-ltb id n l ∙ sym (le-ltb id (suc n) (omega arith)))
+
+-- below a number those of the state, and all from there on
+module _ (s : Server) where
+  abbrev wanted : ℕ → ℕ → Bool
+  wanted k id = cond (ltb id k) (isJoined (s .joined) id) (ltb id ids)
+
+  abbrev Wanted : ℕ → Type 0
+  Wanted k = Leaves (s .vectors) (wanted k)
+
+  wanted-here : (k : ℕ) → k < ids → wanted k k ≡ true
+  wanted-here k h = rw (le-ltb k k (omega arith), lt-ltb k ids h)
+
+  wanted-next : (k : ℕ) → wanted (suc k) k ≡ isJoined (s .joined) k
+  wanted-next k = rw (lt-ltb k (suc k) (omega arith))
+
+  wanted-other : (k id : ℕ) → (id ≡ k → ⊥) → wanted k id ≡ wanted (suc k) id
+  wanted-other k id o =
+      by-less id k (λ l. rw (lt-ltb id k l, lt-ltb id (suc k) (omega arith))) (λ l. rw (le-ltb id k l, le-ltb id (suc k) (omega arith)))
+
+  wanted-more : (k : ℕ) → k < ids → Wanted k → Wanted (suc k)
+  wanted-more k h l =
+      let there : isJoined (l .joined) k ≡ true = l .are k ∙ wanted-here k h in
+      by-bool (isJoined (s .joined) k)
+      (λ e.
+      retold (wanted k) (wanted (suc k))
+      (λ id.
+      by-equal id k (λ same. rw same (wanted-here k h ∙ sym (wanted-next k ∙ e))) (λ o. wanted-other k id o)) l)
+      (λ e.
+      one-more (s .vectors) (wanted k) (wanted (suc k)) l (leaving k) (joinedWithout (l .joined) k)
+      (ap (λ (o : Outcome). o .server) (leaves-joined (serverOf (l .joined) (s .vectors)) k there)) (omega (arith, l .fits))
+      (λ id.
+      by-equal id k (λ same. rw same (without-same (l .joined) k there ∙ sym (wanted-next k ∙ e)))
+      (λ o. without-other (l .joined) k there id o ∙ l .are id ∙ wanted-other k id o)))
+
+pub every-state-is-reached : EveryStateIsReached
+every-state-is-reached s range fits =
+    let first = climb (First (s .vectors)) ids (first-none (s .vectors)) (first-more (s .vectors)) ids (omega arith) in
+    let all = climb (Wanted s) ids (retold (λ id. ltb id ids) (wanted s 0) (λ id. rw (le-ltb id 0 (omega arith))) first) (wanted-more s) ids
+    (omega arith) in
+    let same : all .joined ≡ s .joined =
+    same-bits (all .joined) (s .joined) (all .fits) fits
+    (λ id.
+    all .are id
+    ∙ by-less id ids (λ l. rw (lt-ltb id ids l)) (λ l. rw (le-ltb id ids l) (sym (joined-beyond (s .joined) id l)))) in
+    record { history = all .history; left = all .left ∙ rw same }
+
+-- a call keeps the number, and the bits within 64
+sound-one : (vectors : ℕ) (s : Server) (a : Act) → Sound vectors s → Sound vectors (outcome a s .server)
+sound-one vectors s joining k =
+    by-less (lowestFree (s .joined)) ids
+    (λ l.
+    rw (joins-free s l)
+    (record { same = k .same; fits = with-fits (s .joined) (lowestFree (s .joined)) l (lowest-is-free (s .joined) .free) (k .fits) }))
+    (λ l. rw (joins-full s l) k)
+sound-one vectors s (leaving id) k =
+    by-bool (isJoined (s .joined) id)
+    (λ e. rw (leaves-joined s id e) (record { same = k .same; fits = omega (arith, k .fits) }))
+    (λ e. rw (leaves-free s id e) k)
+
+sound-all : (vectors : ℕ) (history : List Act) (s : Server) → Sound vectors s → Sound vectors (after s history)
+unfolding after
+sound-all vectors [] s k = k
+sound-all vectors (a ∷ later) s k = sound-all vectors later (outcome a s .server) (sound-one vectors s a k)
+
+pub reached-is-sound : ReachedIsSound
+reached-is-sound vectors history = sound-all vectors history (serverOf 0 vectors) (record { same = refl; fits = omega arith })
