@@ -92,8 +92,11 @@ pub each-joined : {A : Type 0} (joined : ℕ) (f g : ℕ → List A) → ((id : 
 unfolding joinedBelow eachOf
 each-joined joined f g same zero = refl
 each-joined joined f g same (suc n) =
-    rw (each-append f (joinedBelow n joined) (joinedAt joined n), each-append g (joinedBelow n joined) (joinedAt joined n),
-    each-joined joined f g same n)
+    rw (
+      each-append f (joinedBelow n joined) (joinedAt joined n),
+      each-append g (joinedBelow n joined) (joinedAt joined n),
+      each-joined joined f g same n,
+    )
     (by-joined joined (λ l. eachOf g (joinedBelow n joined) ++ eachOf f l ≡ eachOf g (joinedBelow n joined) ++ eachOf g l) n
     (λ e. rw (same n e)) (λ e. refl))
 

@@ -98,36 +98,27 @@ fn put_start(out: &mut [u8], id: u8)
     requires { ⌜ 30 ≤ length (now out) ⌝ }
     ensures { λ r. ⌜ now (out .exit) ≡ sets (now (out .entry)) 0 (startBytes id) ⌝ }
 {
-    messages::put(
-        out,
-        0,
-        Message {
-            client: id,
-            kind: 0,
-            low: 0,
-            high: 0,
-        },
-    );
-    messages::put(
-        out,
-        1,
-        Message {
-            client: id,
-            kind: 0,
-            low: id,
-            high: 0,
-        },
-    );
-    messages::put(
-        out,
-        2,
-        Message {
-            client: id,
-            kind: 1,
-            low: 255,
-            high: 255,
-        },
-    );
+    let version = Message {
+        client: id,
+        kind: 0,
+        low: 0,
+        high: 0,
+    };
+    let own = Message {
+        client: id,
+        kind: 0,
+        low: id,
+        high: 0,
+    };
+    let memory = Message {
+        client: id,
+        kind: 1,
+        low: 255,
+        high: 255,
+    };
+    messages::put(out, 0, version);
+    messages::put(out, 1, own);
+    messages::put(out, 2, memory);
 }
 
 // All messages of a join, and their number.
@@ -135,40 +126,28 @@ fn put_join(out: &mut [u8], joined: u64, id: u8, vectors: usize) -> usize
     requires { ⌜ length (joinBytes joined id vectors) ≤ length (now out) ⌝ }
     ensures { λ r. ⌜ (now (out .exit) ≡ sets (now (out .entry)) 0 (joinBytes joined id vectors)) × (10 * r ≡ length (joinBytes joined id vectors)) ⌝ }
 {
+    let known = Notice {
+        kind: 1,
+        id,
+        times: vectors,
+        single: true,
+    };
+    let own = Message {
+        client: id,
+        kind: 1,
+        low: id,
+        high: 0,
+    };
+    let joiner = Notice {
+        kind: 1,
+        id,
+        times: vectors,
+        single: false,
+    };
     put_start(out, id);
-    let own = notices::put_notices(
-        out,
-        3,
-        joined,
-        Notice {
-            kind: 1,
-            id,
-            times: vectors,
-            single: true,
-        },
-    );
-    messages::put_times(
-        out,
-        own,
-        Message {
-            client: id,
-            kind: 1,
-            low: id,
-            high: 0,
-        },
-        vectors,
-    );
-    notices::put_notices(
-        out,
-        own + vectors,
-        joined,
-        Notice {
-            kind: 1,
-            id,
-            times: vectors,
-            single: false,
-        },
-    )
+    let second = notices::put_notices(out, 3, joined, known);
+    messages::put_times(out, second, own, vectors);
+    notices::put_notices(out, second + vectors, joined, joiner)
 }
 
 // A join with an id that is free.
@@ -177,14 +156,15 @@ fn join_as(server: Server, id: u64, out: &mut [u8]) -> Served
     ensures { λ r. ⌜ Serves (joinAs server id) (now (out .entry)) (now (out .exit)) r ⌝ }
 {
     let messages = put_join(out, server.joined, id as u8, server.vectors as usize);
+    let next = Server {
+        joined: clients::with(server.joined, id),
+        vectors: server.vectors,
+    };
     Served {
         number: 0,
         id: id as u32,
         messages,
-        server: Server {
-            joined: clients::with(server.joined, id),
-            vectors: server.vectors,
-        },
+        server: next,
     }
 }
 
@@ -194,21 +174,22 @@ fn leave_as(server: Server, id: u64, out: &mut [u8]) -> Served
     ensures { λ r. ⌜ Serves (leaveAs server id) (now (out .entry)) (now (out .exit)) r ⌝ }
 {
     let joined = clients::without(server.joined, id);
-    let notice = Notice {
+    let left = Notice {
         kind: 0,
         id: id as u8,
         times: 1,
         single: false,
     };
-    let messages = notices::put_notices(out, 0, joined, notice);
+    let messages = notices::put_notices(out, 0, joined, left);
+    let next = Server {
+        joined,
+        vectors: server.vectors,
+    };
     Served {
         number: 0,
         id: id as u32,
         messages,
-        server: Server {
-            joined,
-            vectors: server.vectors,
-        },
+        server: next,
     }
 }
 

@@ -19,11 +19,11 @@ put-join-requires c κs =
     let p = c .before .before .pre in
     omega (arith, join-room (a .server .joined) (a .id) (a .server .vectors) (p .1) (p .2) (p .0))
 
-cast-t9 : tie.Need-cast-t9
-cast-t9 c = omega (arith, ids-byte)
-
 with-requires : tie.Need-with-requires
 with-requires c κs = search needs
+
+cast-t11 : tie.Need-cast-t11
+cast-t11 c = omega (arith, ids-byte)
 
 same-length : tie.Need-same-length
 same-length c = search needs
@@ -40,4 +40,4 @@ returns c =
 
 pub join-as-spec : {M : Type 1} → statement M
 join-as-spec =
-    tie.close (tie.spec cast-put-join put-join-requires cast-t9 with-requires same-length returns)
+    tie.close (tie.spec cast-put-join put-join-requires with-requires cast-t11 same-length returns)

@@ -19,12 +19,8 @@ use Rattle.server.proofs.leave_as.Tie as tie
 without-requires : tie.Need-without-requires
 without-requires c κs = search needs
 
-cast-t7 : tie.Need-cast-t7
-cast-t7 c =
-    let a = c .before .before .args in
-    let e = c .before .before .pre .0 in
-    let h = joined-below (a .server .joined) (a .id) e in
-    omega (arith, ids-byte, h)
+cast-t8 : tie.Need-cast-t8
+cast-t8 c = omega (arith, ids-byte, joined-below _ _ (c .before .before .pre .0))
 
 put-notices-requires : tie.Need-put-notices-requires
 put-notices-requires c κs =
@@ -33,12 +29,8 @@ put-notices-requires c κs =
     let h = joined-below (a .server .joined) (a .id) e in
     rw (c .before .without .ensures) (omega (arith, leave-room _ (a .id) h (without-same (a .server .joined) (a .id) e)))
 
-cast-t10 : tie.Need-cast-t10
-cast-t10 c =
-    let a = c .before .before .before .before .before .before .args in
-    let e = c .before .before .before .before .before .before .pre .0 in
-    let h = joined-below (a .server .joined) (a .id) e in
-    omega (arith, ids-byte, h)
+cast-t11 : tie.Need-cast-t11
+cast-t11 c = omega (arith, ids-byte, joined-below _ _ (c .before .before .before .before .before .before .pre .0))
 
 same-length : tie.Need-same-length
 same-length c = search needs
@@ -59,4 +51,4 @@ returns c =
 
 pub leave-as-spec : {M : Type 1} → statement M
 leave-as-spec =
-    tie.close (tie.spec without-requires cast-t7 put-notices-requires cast-t10 same-length returns)
+    tie.close (tie.spec without-requires cast-t8 put-notices-requires cast-t11 same-length returns)

@@ -17,10 +17,7 @@ same-length : tie.Need-same-length
 same-length c = search needs
 
 returns : tie.Need-returns
-returns c =
-    let c4 = c .before .before .before .before in
-    let c8 = c4 .before .before .before .before in
-    c .before .before .put3 .ensures ∙ rw (c4 .before .before .put2 .ensures, c8 .before .before .put .ensures)
+returns c = c .before .before .put3 .ensures ∙ rw (c .before .before .before .before .before .before .put2 .ensures, c .before .before .before .before .before .before .before .before .before .before .put .ensures)
 
 pub put-start-spec : {M : Type 1} → statement M
 put-start-spec =
