@@ -1,5 +1,5 @@
-// A host in C++17 over the same headers and archives: two peers, one rings the other; and a server's records, read from a stream.
-// Ends with 1 where an answer is not the one that it has to be.
+// A host in C++17 over the same headers and archives: two peers, one rings the other; a server's records, read from a stream;
+// and a server, whose records a client reads. Ends with 1 where an answer is not the one that it has to be.
 #include <array>
 #include <cstddef>
 #include <cstdint>
@@ -56,9 +56,9 @@ bool switch_on(Hub &hub, std::uint64_t id)
         && hub.write(id, IVSHMEM_REGISTER_INTERRUPT_CONTROL, 1).empty();
 }
 
-class Server {
+class Reader {
 public:
-    explicit Server(std::uint64_t vectors) : vectors(vectors) {}
+    explicit Reader(std::uint64_t vectors) : vectors(vectors) {}
 
     // The messages of a piece of the stream, which is not empty, in order.
     std::vector<std::uint32_t> read(const std::vector<std::uint8_t> &piece)
@@ -89,10 +89,65 @@ bool reads_records()
 {
     const std::vector<std::uint32_t> version = {IVSHMEM_PROTOCOL_MESSAGE_VERSION, IVSHMEM_PROTOCOL_MESSAGE_MORE};
     const std::vector<std::uint32_t> id = {IVSHMEM_PROTOCOL_MESSAGE_ID, IVSHMEM_PROTOCOL_MESSAGE_MORE};
-    Server server(1);
+    Reader reader(1);
 
-    return server.read({0, 0, 0, 0, 0, 0, 0, 0, 0, 0, 7}) == version && server.read({0, 0, 0, 0, 0, 0, 0}) == id
-        && server.id() == 7;
+    return reader.read({0, 0, 0, 0, 0, 0, 0, 0, 0, 0, 7}) == version && reader.read({0, 0, 0, 0, 0, 0, 0}) == id
+        && reader.id() == 7;
+}
+
+class Server {
+public:
+    explicit Server(std::uint64_t vectors)
+        : state(ivshmem_protocol_start(vectors).server), buffer(IVSHMEM_PROTOCOL_BUFFER_BYTES)
+    {
+    }
+
+    ivshmem_protocol_served join() { return taken(ivshmem_protocol_join(state, buffer.data(), buffer.size())); }
+
+    ivshmem_protocol_served leave(std::uint64_t id)
+    {
+        return taken(ivshmem_protocol_leave(state, id, buffer.data(), buffer.size()));
+    }
+
+    // The records of the last call to this client.
+    std::vector<std::uint8_t> records(std::uint32_t client) const
+    {
+        std::vector<std::uint8_t> all;
+
+        for (std::size_t place = 0; place < messages; place++) {
+            const std::uint8_t *record = ivshmem_protocol_sent_record(buffer.data(), place);
+            if (ivshmem_protocol_sent_at(buffer.data(), place).client == client)
+                all.insert(all.end(), record, record + IVSHMEM_PROTOCOL_RECORD_BYTES);
+        }
+        return all;
+    }
+
+private:
+    ivshmem_protocol_served taken(const ivshmem_protocol_served &served)
+    {
+        state = served.server;
+        messages = served.messages;
+        return served;
+    }
+
+    ivshmem_protocol_server state;
+    std::vector<std::uint8_t> buffer;
+    std::size_t messages = 0;
+};
+
+bool writes_records()
+{
+    const std::vector<std::uint32_t> start = {IVSHMEM_PROTOCOL_MESSAGE_VERSION, IVSHMEM_PROTOCOL_MESSAGE_ID,
+                                              IVSHMEM_PROTOCOL_MESSAGE_MEMORY, IVSHMEM_PROTOCOL_MESSAGE_VECTOR,
+                                              IVSHMEM_PROTOCOL_MESSAGE_MORE};
+    const std::vector<std::uint32_t> vector = {IVSHMEM_PROTOCOL_MESSAGE_VECTOR, IVSHMEM_PROTOCOL_MESSAGE_MORE};
+    const std::vector<std::uint32_t> left = {IVSHMEM_PROTOCOL_MESSAGE_DISCONNECTED, IVSHMEM_PROTOCOL_MESSAGE_MORE};
+    Server server(1);
+    Reader first(1);
+
+    return server.join().id == 0 && first.read(server.records(0)) == start && server.join().id == 1
+        && first.read(server.records(0)) == vector && server.leave(1).messages == 1 && first.read(server.records(0)) == left
+        && server.leave(1).number == IVSHMEM_PROTOCOL_NOT_JOINED && server.join().id == 1;
 }
 
 } // namespace
@@ -117,6 +172,10 @@ int main()
     }
     if (!reads_records()) {
         std::puts("C++: the server's records are read wrongly");
+        return 1;
+    }
+    if (!writes_records()) {
+        std::puts("C++: the server's records are written wrongly");
         return 1;
     }
     settings.peers = 1;

@@ -11,14 +11,9 @@ use benchmark::{cases, million, stack};
 use ivshmem::{MAX_PEERS, MAX_VECTORS};
 
 fn main() -> ExitCode {
-    let arguments: Vec<String> = std::env::args().skip(1).collect();
-    let style = match arguments.iter().map(String::as_str).collect::<Vec<_>>()[..] {
-        [] => Style::Terminal,
-        ["--markdown"] => Style::Markdown,
-        _ => {
-            eprintln!("usage: benchmark [--markdown]");
-            return ExitCode::FAILURE;
-        }
+    let style = match Style::asked("benchmark") {
+        Ok(style) => style,
+        Err(code) => return code,
     };
     print_all_times(style);
     print_memory(style);

@@ -28,7 +28,7 @@ pub const POSITIONS: [Lowered; 16] = [
     lowered::<2192>, lowered::<2464>, lowered::<2736>, lowered::<3008>,
     lowered::<3280>, lowered::<3552>, lowered::<3824>, lowered::<4096>,
 ];
-const PIECES: usize = 15;
+pub const PIECES: usize = 15;
 /// How long a piece takes at the library's speed.
 const PIECE: Duration = Duration::from_micros(250);
 
@@ -181,13 +181,18 @@ fn check(case: &Case) {
     }
 }
 
+/// How many rounds are made in one piece, by the time that some of them take.
+pub fn rounds_of_piece(mut time: impl FnMut(u32) -> Duration) -> u32 {
+    const TRIAL: u32 = 100;
+    // The shortest trial is one in which nothing else ran.
+    let trial = (0..8).map(|_| time(TRIAL)).min().unwrap_or_default();
+    (PIECE.as_nanos() * u128::from(TRIAL) / trial.as_nanos().max(1)).max(1) as u32
+}
+
 /// How many rounds the library makes in one piece.
 fn rounds(case: &Case) -> u32 {
-    const TRIAL: u32 = 100;
     let bench = &mut benches(case)[0];
-    // The shortest trial is one in which nothing else ran.
-    let trial = (0..8).map(|_| bench.time(case, TRIAL)).min().unwrap_or_default();
-    (PIECE.as_nanos() * u128::from(TRIAL) / trial.as_nanos().max(1)).max(1) as u32
+    rounds_of_piece(|rounds| bench.time(case, rounds))
 }
 
 /// Does the work with the stack so many bytes lower.
@@ -205,23 +210,47 @@ pub fn median(mut values: Vec<f64>) -> f64 {
     values[values.len() / 2]
 }
 
+/// Lets the sides take so many turns at each place of the stack, each turn begun once for all of them. The nanoseconds of each:
+/// the sum over the places of the median turn there.
+pub fn take_turns<S>(
+    sides: &mut [S],
+    turns: usize,
+    mut begin: impl FnMut(),
+    mut time: impl FnMut(&mut S) -> Duration,
+) -> Vec<f64> {
+    let mut sums = vec![0.0; sides.len()];
+    for position in POSITIONS {
+        let mut taken = vec![Vec::new(); sides.len()];
+        for _ in 0..turns {
+            begin();
+            for (side, taken) in sides.iter_mut().zip(&mut taken) {
+                taken.push(position(&mut || time(side)).as_nanos() as f64);
+            }
+        }
+        for (sum, taken) in sums.iter_mut().zip(taken) {
+            *sum += median(taken);
+        }
+    }
+    sums
+}
+
+/// The passes over each case. Every pass has all cases.
+pub fn in_passes<C>(cases: &[C], mut pass: impl FnMut(&C) -> Pass) -> Vec<Vec<Pass>> {
+    let mut passes = vec![Vec::new(); cases.len()];
+    for _ in 0..PASSES {
+        for (passes, case) in passes.iter_mut().zip(cases) {
+            passes.push(pass(case));
+        }
+    }
+    passes
+}
+
 fn measure(case: &Case, rounds: u32) -> Pass {
     let mut benches = benches(case);
     for bench in &mut benches {
         bench.time(case, 1 + rounds / 4);
     }
-    let mut sums = vec![0.0; benches.len()];
-    for position in POSITIONS {
-        let mut pieces = vec![Vec::new(); benches.len()];
-        for _ in 0..PIECES {
-            for (bench, pieces) in benches.iter_mut().zip(&mut pieces) {
-                pieces.push(position(&mut || bench.time(case, rounds)).as_nanos() as f64);
-            }
-        }
-        for (sum, pieces) in sums.iter_mut().zip(pieces) {
-            *sum += median(pieces);
-        }
-    }
+    let sums = take_turns(&mut benches, PIECES, || (), |bench| bench.time(case, rounds));
     let calls = f64::from(rounds) * (ROUND * POSITIONS.len()) as f64;
     sums.into_iter().map(|sum| sum / calls).collect()
 }
@@ -230,14 +259,9 @@ fn measure(case: &Case, rounds: u32) -> Pass {
 #[must_use]
 pub fn measure_all(cases: &[Case]) -> Vec<Row> {
     cases.iter().for_each(check);
-    let rounds: Vec<u32> = cases.iter().map(rounds).collect();
-    let mut passes = vec![Vec::new(); cases.len()];
-    for _ in 0..PASSES {
-        for (passes, (case, rounds)) in passes.iter_mut().zip(cases.iter().zip(&rounds)) {
-            passes.push(measure(case, *rounds));
-        }
-    }
+    let timed: Vec<_> = cases.iter().map(|case| (case, rounds(case))).collect();
+    let passes = in_passes(&timed, |(case, rounds)| measure(case, *rounds));
     let calls = |rounds: u32| rounds as usize * ROUND * PIECES * POSITIONS.len();
-    let measured = cases.iter().zip(&rounds).zip(&passes);
-    measured.map(|((case, rounds), passes)| Row::new(&case.name, calls(*rounds), passes)).collect()
+    let rows = timed.iter().zip(&passes);
+    rows.map(|((case, rounds), passes)| Row::new(&case.name, calls(*rounds), passes)).collect()
 }

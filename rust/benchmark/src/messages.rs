@@ -2,6 +2,7 @@
 //! All are called through a pointer, with the same values and the same memory. They take turns, a stretch of the stream each,
 //! and a pass is spread over the same places of the stack as in [`measure`](crate::measure).
 
+use std::cell::Cell;
 use std::hint::black_box;
 use std::time::{Duration, Instant};
 
@@ -11,7 +12,7 @@ use model::random::Random;
 use protocol_model::Reading;
 use protocol_model::reader::{self, PEERS, State};
 
-use crate::measure::{PASSES, POSITIONS, Pass, Row, median};
+use crate::measure::{POSITIONS, Pass, Row, in_passes, take_turns};
 use crate::plain_reader;
 
 /// The yardsticks, in the order of the ratios.
@@ -165,35 +166,21 @@ pub fn check(case: &Case<'_>) -> [usize; 8] {
 fn pass(case: &Case<'_>) -> Pass {
     let stretch = case.stream.len() / RECORD_BYTES / POSITIONS.len() / TURNS;
     let mut ways: Vec<_> = readings(case).into_iter().map(|reading| (reading, Way::new(case))).collect();
-    let mut sums = vec![0.0; ways.len()];
-    let mut end = 0;
-    for position in POSITIONS {
-        let mut taken = vec![Vec::new(); ways.len()];
-        for _ in 0..TURNS {
-            let from = end;
-            end += stretch * RECORD_BYTES;
-            // The stretch is as near to the first reader as to the others.
-            black_box(case.stream[from..end].iter().fold(0, |all, byte| all ^ byte));
-            for ((reading, way), taken) in ways.iter_mut().zip(&mut taken) {
-                taken.push(position(&mut || way.time(*reading, end)).as_nanos() as f64);
-            }
-        }
-        for (sum, taken) in sums.iter_mut().zip(taken) {
-            *sum += median(taken);
-        }
-    }
+    let end = Cell::new(0);
+    let begin = || {
+        let from = end.get();
+        end.set(from + stretch * RECORD_BYTES);
+        // The stretch is as near to the first reader as to the others.
+        black_box(case.stream[from..end.get()].iter().fold(0, |all, byte| all ^ byte));
+    };
+    let sums = take_turns(&mut ways, TURNS, begin, |(reading, way)| way.time(*reading, end.get()));
     sums.into_iter().map(|sum| sum / (stretch * POSITIONS.len()) as f64).collect()
 }
 
 /// Measures all rows in every pass.
 #[must_use]
 pub fn measure_all(cases: &[Case<'_>]) -> Vec<Row> {
-    let mut passes = vec![Vec::new(); cases.len()];
-    for _ in 0..PASSES {
-        for (passes, case) in passes.iter_mut().zip(cases) {
-            passes.push(pass(case));
-        }
-    }
+    let passes = in_passes(cases, pass);
     let rows = cases.iter().zip(&passes);
     rows.map(|(case, passes)| Row::new(case.name, case.stream.len() / RECORD_BYTES, passes)).collect()
 }

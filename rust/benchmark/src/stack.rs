@@ -19,20 +19,28 @@ pub fn reader_depths() -> Vec<Depth> {
     Vec::new()
 }
 
+#[cfg(not(all(target_arch = "x86_64", unix)))]
+#[must_use]
+pub fn server_depths() -> Vec<Depth> {
+    Vec::new()
+}
+
 #[cfg(all(target_arch = "x86_64", unix))]
-pub use painted::{depths, reader_depths};
+pub use painted::{depths, reader_depths, server_depths};
 
 #[cfg(all(target_arch = "x86_64", unix))]
 mod painted {
     use std::arch::asm;
 
     use ivshmem::{Delivery, MAX_PEERS};
-    use ivshmem_protocol::raw::{Answer, Progress};
+    use ivshmem_protocol::raw::{Answer, Progress, Served, Server, Started};
     use model::call::Call;
+    use protocol_model::server::Act;
 
     use super::Depth;
     use crate::cases::{self, Case, SHARED_BYTES};
     use crate::messages::{self, Way};
+    use crate::server_messages;
 
     // Only the addresses are used.
     unsafe extern "C" {
@@ -50,6 +58,9 @@ mod painted {
         fn ivshmem_load();
         fn ivshmem_store();
         fn ivshmem_protocol_read();
+        fn ivshmem_protocol_start();
+        fn ivshmem_protocol_join();
+        fn ivshmem_protocol_leave();
     }
 
     type Function = unsafe extern "C" fn();
@@ -150,6 +161,43 @@ mod painted {
         // SAFETY: the function and its arguments belong together, as `ivshmem_protocol.h` declares them.
         let bytes = unsafe { depth(ivshmem_protocol_read, &arguments) };
         (answer, bytes)
+    }
+
+    /// The deepest call of each kind of the server's side: the benchmark's rows.
+    #[must_use]
+    pub fn server_depths() -> Vec<Depth> {
+        let names = ["ivshmem_protocol_start", "ivshmem_protocol_join", "ivshmem_protocol_leave"];
+        let mut deepest = names.map(|name| Depth { name, bytes: 0 });
+        for case in server_messages::cases().iter().filter(|case| !case.empty) {
+            let calls = [(0, start(case.server.vectors)), serve(case)];
+            for (kind, bytes) in calls {
+                deepest[kind].bytes = deepest[kind].bytes.max(bytes);
+            }
+        }
+        deepest.into()
+    }
+
+    /// How deep a start goes.
+    fn start(vectors: u64) -> usize {
+        // The answer is too large for registers: its place goes first.
+        let mut started = Started::default();
+        // SAFETY: the function and its arguments belong together, as `ivshmem_protocol.h` declares them.
+        unsafe { depth(ivshmem_protocol_start, &[&raw mut started as u64, vectors]) }
+    }
+
+    /// Which call a case is, 1 a join and 2 a leave, and how deep it goes.
+    fn serve(case: &server_messages::Case) -> (usize, usize) {
+        let (mut served, mut buffer) = (Served::default(), vec![0u8; case.room]);
+        let Server { joined, vectors } = case.server;
+        let lent = [buffer.as_mut_ptr() as u64, buffer.len() as u64];
+        // The answer is too large for registers: its place goes first. The state is in two.
+        let first = [&raw mut served as u64, joined, vectors];
+        let (kind, function, arguments): (_, Function, _) = match case.act {
+            Act::Join => (1, ivshmem_protocol_join, [&first[..], &lent].concat()),
+            Act::Leave(id) => (2, ivshmem_protocol_leave, [&first[..], &[id], &lent].concat()),
+        };
+        // SAFETY: the function and its arguments belong together, as `ivshmem_protocol.h` declares them.
+        (kind, unsafe { depth(function, &arguments) })
     }
 
     /// The arguments of the C function, each as a 64-bit number.

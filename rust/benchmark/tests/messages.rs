@@ -13,8 +13,7 @@ fn plain_reader_agrees_with_the_model() {
         Err((failure, _)) => panic!("{failure}"),
     };
     // Each message, each clause of 10 alone, and why each step closes.
-    let missing: Vec<_> = LEAST.iter().map(|(what, _)| what).filter(|what| !counts.seen.contains_key(*what)).collect();
-    assert!(missing.is_empty(), "not covered: {missing:?}");
+    assert_eq!(counts.seen.missing(&LEAST), Vec::<&str>::new());
 }
 
 /// Every row of the table, on a shorter stream: library, plain reader and model leave the same at every call.

@@ -2,7 +2,7 @@
 
 use std::collections::BTreeMap;
 
-use ivshmem_protocol::raw::{Answer, Progress};
+use ivshmem_protocol::raw::{Answer, Progress, Served, Server, Started};
 use ivshmem_protocol::{Due, Message, Refusal};
 
 const HEADER: &str = include_str!("../../../include/ivshmem_protocol.h");
@@ -38,6 +38,9 @@ fn crate_numbers() -> BTreeMap<String, u64> {
         ("MAX_VECTORS", ivshmem_protocol::MAX_VECTORS),
         ("RECORD_BYTES", ivshmem_protocol::RECORD_BYTES as u64),
         ("HELD_BYTES", ivshmem_protocol::HELD_BYTES as u64),
+        ("SENT_BYTES", ivshmem_protocol::SENT_BYTES as u64),
+        ("MAX_SENT", ivshmem_protocol::MAX_SENT as u64),
+        ("BUFFER_BYTES", ivshmem_protocol::BUFFER_BYTES as u64),
         ("ACCEPTED", 0),
     ];
     let mut all: BTreeMap<String, u64> = all.into_iter().map(|(name, value)| (name.into(), value)).collect();
@@ -107,8 +110,17 @@ fn texts() {
 fn fields() {
     let progress = format!("{:?}", Progress::default());
     let answer = format!("{:?}", Answer::default()).replace(&progress, "");
+    let server = format!("{:?}", Server::default());
+    let started = format!("{:?}", Started::default()).replace(&server, "");
+    let served = format!("{:?}", Served::default()).replace(&server, "");
     let header = header();
-    for (name, printed, count) in [("progress", progress, 4), ("answer", answer, 6)] {
+    for (name, printed, count) in [
+        ("progress", progress, 4),
+        ("answer", answer, 6),
+        ("server", server, 2),
+        ("started", started, 2),
+        ("served", served, 4),
+    ] {
         let (_, body) = header.split_once(&format!("typedef struct ivshmem_protocol_{name} {{")).expect("the struct");
         let (body, _) = body.split_once('}').expect("its end");
         let names = body.split(';').filter_map(|field| field.split_whitespace().nth(1)?.split('[').next());
@@ -121,20 +133,28 @@ fn fields() {
     }
 }
 
-/// Every function that the header declares is declared with as many arguments of the same names, and the call has its raw form.
+/// What stands between a function's name and the end of its arguments, wherever it is declared in a text.
+fn arguments<'a>(text: &'a str, before: &str, name: &str) -> Vec<&'a str> {
+    let declared = format!("{before}ivshmem_protocol_{name}(");
+    text.split(&declared).skip(1).map(|behind| behind.split_once(')').expect("the arguments' end").0).collect()
+}
+
+/// Every function that the header declares is declared with as many arguments of the same names, and each call has its raw form.
 #[test]
 fn functions() {
     let header = header().split_whitespace().collect::<Vec<_>>().join(" ");
-    let declared: Vec<_> = header.split("ivshmem_protocol_read(").skip(1).collect();
-    assert_eq!(declared.len(), 1);
-    let (arguments, _) = declared[0].split_once(')').expect("the arguments' end");
-    let names: Vec<_> =
-        arguments.split(',').filter_map(|argument| argument.rsplit([' ', '*']).find(|name| !name.is_empty())).collect();
-    let (_, ours) = BOUNDARY.split_once("    fn ivshmem_protocol_read(").expect("the declaration");
-    let (ours, _) = ours.split_once(')').expect("the arguments' end");
-    let our_names: Vec<_> = ours.split(',').filter_map(|argument| Some(argument.split_once(':')?.0.trim())).collect();
-    assert_eq!(names, our_names);
-    assert_eq!(names.len(), 6);
-    assert!(BOUNDARY.contains("\npub fn read("));
-    assert_eq!(BOUNDARY.matches("    fn ivshmem_protocol_").count(), 2, "the call and the guard");
+    let calls = [("read", 6), ("start", 1), ("join", 3), ("leave", 4)];
+    for (name, count) in calls {
+        let [arguments] = arguments(&header, " ", name)[..] else { panic!("{name} is not declared once") };
+        let names =
+            arguments.split(',').filter_map(|argument| argument.rsplit([' ', '*']).find(|name| !name.is_empty()));
+        let [ours] = self::arguments(BOUNDARY, "    fn ", name)[..] else { panic!("{name} is not declared here") };
+        let ours = ours.split(',').filter_map(|argument| Some(argument.split_once(':')?.0.trim()));
+        let names: Vec<_> = names.collect();
+        assert_eq!(names, ours.collect::<Vec<_>>(), "{name}");
+        assert_eq!(names.len(), count, "{name}");
+        assert!(BOUNDARY.contains(&format!("\npub fn {name}(")), "{name} has no raw form");
+    }
+    assert_eq!(BOUNDARY.matches("    fn ivshmem_protocol_").count(), calls.len() + 1, "the calls and the guard");
+    assert_eq!(header.matches("IVSHMEM_PROTOCOL_MUST_USE ivshmem_protocol_").count(), calls.len());
 }

@@ -1,8 +1,8 @@
-//! Every method of the wrapper, every message, and every refusal through it.
+//! Every method of the reader's wrapper, every message, and every refusal through it.
 
 use std::error::Error;
 
-use ivshmem_protocol::raw::{self, Answer, Progress};
+use ivshmem_protocol::raw::{self, Answer, Progress, Served, Started};
 use ivshmem_protocol::{Due, IDS, MAX_VECTORS, Message, RECORD_BYTES, Read, Reader, Refusal, record};
 
 const OWN: u8 = 9;
@@ -28,10 +28,15 @@ fn feed(reader: &mut Reader, descriptor: bool, number: i64) -> Message {
 
 #[test]
 fn numbers_of_refusals() {
-    assert_eq!(Refusal::ALL.map(Refusal::number), [1, 2, 10]);
+    assert_eq!(Refusal::ALL.map(Refusal::number), [1, 2, 4, 10, 10, 11, 12]);
     for refusal in Refusal::ALL {
-        assert_eq!(Refusal::from_number(refusal.number()), Some(refusal));
-        assert_eq!(Answer { number: refusal.number(), ..Answer::default() }.result(), Err(refusal));
+        let number = refusal.number();
+        // 10 is one thing of a reader and another of a server.
+        let [readers, servers] = if number == 10 { [Refusal::BadProgress, Refusal::BadServer] } else { [refusal; 2] };
+        assert_eq!(Refusal::from_number(number), Some(readers));
+        assert_eq!(Answer { number, ..Answer::default() }.result(), Err(readers));
+        assert_eq!(Started { number, ..Started::default() }.result(), Err(servers));
+        assert_eq!(Served { number, ..Served::default() }.result(), Err(servers));
         let error: Box<dyn Error> = refusal.into();
         assert_eq!(error.to_string(), refusal.reason());
     }
@@ -41,9 +46,11 @@ fn numbers_of_refusals() {
 /// A number that this crate does not know is none that it knows, and is kept.
 #[test]
 fn unknown_numbers() {
-    for number in [3, 9, 11, 255, 256, 0x0001_000a, u32::MAX] {
+    for number in [3, 5, 9, 13, 255, 256, 0x0001_000a, u32::MAX] {
         let refusal = Answer { number, message: 1, ..Answer::default() }.result().unwrap_err();
         assert_eq!((refusal, refusal.number()), (Refusal::Unknown(number), number));
+        assert_eq!(Started { number, ..Started::default() }.result(), Err(refusal));
+        assert_eq!(Served { number, messages: 1, ..Served::default() }.result(), Err(refusal));
         assert!(!Refusal::ALL.contains(&refusal));
         assert_eq!(refusal.to_string(), format!("an unknown number, {number}"));
     }

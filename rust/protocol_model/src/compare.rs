@@ -7,11 +7,8 @@ use ivshmem_protocol::raw::Answer;
 use crate::Reading;
 use crate::count::Counts;
 use crate::generate::Generator;
+use crate::lent::Lent;
 use crate::reader::{self, State};
-
-/// Bytes before and behind the counts that are lent, which no call may touch.
-const GUARD: usize = 16;
-const GUARDED: u8 = 0xa5;
 
 /// One call.
 #[derive(Clone, Debug)]
@@ -47,21 +44,18 @@ impl fmt::Display for Failure {
 /// The first difference, in words.
 pub fn call(reading: Reading, call: &Call<'_>) -> Result<(Answer, State), String> {
     let Call { state, vectors, input } = *call;
-    let (length, lent_input) = (state.counts.len(), input.to_vec());
-    let mut lent = vec![GUARDED; length + 2 * GUARD];
-    lent[GUARD..][..length].copy_from_slice(&state.counts);
-    let ours = reading(state.progress, &mut lent[GUARD..][..length], vectors, &lent_input);
+    let (mut lent, lent_input) = (Lent::new(&state.counts), input.to_vec());
+    let ours = reading(state.progress, lent.bytes_mut(), vectors, &lent_input);
 
     let mut counts = state.counts.clone();
     let models = reader::read(state.progress, &mut counts, vectors, input);
     if ours != models {
         return Err(format!("the answer is {ours:?}\n    the model's is {models:?}"));
     }
-    let at = (0..length).find(|&at| lent[GUARD + at] != counts[at]);
-    if let Some(at) = at {
-        return Err(format!("count {at} is {}, and {} in the model", lent[GUARD + at], counts[at]));
+    if let Some(at) = lent.difference(&counts) {
+        return Err(format!("count {at} is {}, and {} in the model", lent.bytes()[at], counts[at]));
     }
-    if lent[..GUARD] != [GUARDED; GUARD] || lent[GUARD + length..] != [GUARDED; GUARD] || lent_input != input {
+    if !lent.is_apart() || lent_input != input {
         return Err("bytes that are not the counts are changed".into());
     }
     Ok((models, State { progress: models.progress, counts }))

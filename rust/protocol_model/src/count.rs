@@ -1,6 +1,5 @@
 //! What a run has covered, by name.
 
-use std::collections::BTreeMap;
 use std::fmt;
 
 use ivshmem_protocol::raw::Answer;
@@ -9,6 +8,7 @@ use crate::compare::Call;
 use crate::reader::{
     CLOSED, Fault, ID_DUE, IDS, MAX_VECTORS, MEMORY_DUE, PEERS, RECORD, State, VERSION_DUE, ended_record,
 };
+use crate::seen::Seen;
 
 const MESSAGES: [&str; 8] = ["more", "version", "id", "memory", "vector", "extra vector", "disconnected", "closed"];
 
@@ -109,24 +109,17 @@ pub struct Counts {
     pub records: u64,
     /// Those among them that were read from a damaged state, or behind one.
     pub damaged: u64,
-    pub seen: BTreeMap<&'static str, u64>,
+    pub seen: Seen,
 }
 
 impl Counts {
     fn see(&mut self, what: &'static str) {
-        *self.seen.entry(what).or_default() += 1;
-    }
-
-    fn times(&self, what: &str) -> u64 {
-        self.seen.get(what).copied().unwrap_or_default()
+        self.seen.see(what);
     }
 
     /// What was seen too seldom for so many million records in streams, and what has no bound.
     pub fn gaps(&self, millions: u64) -> Vec<String> {
-        let few = LEAST.iter().filter(|(what, least)| self.times(what) < least * millions);
-        let seldom = few.map(|(what, least)| format!("{what}: {} times, not {}", self.times(what), least * millions));
-        let unbound = self.seen.keys().filter(|what| LEAST.iter().all(|(name, _)| name != *what));
-        seldom.chain(unbound.map(|what| format!("{what}: not listed"))).collect()
+        self.seen.gaps(&LEAST, millions)
     }
 
     /// Counts a call and its answer.
@@ -274,6 +267,6 @@ impl fmt::Display for Counts {
     fn fmt(&self, f: &mut fmt::Formatter<'_>) -> fmt::Result {
         let Counts { calls, records, damaged, .. } = self;
         writeln!(f, "protocol: {calls} calls, {records} whole records, {damaged} of them from damaged states")?;
-        LEAST.iter().try_for_each(|(what, _)| writeln!(f, "{:>9}  {what}", self.times(what)))
+        self.seen.list(&LEAST, f)
     }
 }

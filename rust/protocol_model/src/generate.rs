@@ -159,7 +159,8 @@ impl Generator {
         (state, vectors)
     }
 
-    fn any_vectors(&mut self) -> u64 {
+    /// Any number of vectors, mostly one that is not taken.
+    pub fn any_vectors(&mut self) -> u64 {
         let any = self.random.long();
         let high = self.random.pick(&[1 << 4, 1 << 8, 1 << 16, 1 << 32, 1 << 63]);
         self.random.pick(&[0, 1, 16, 17, 18, 255, u64::MAX, any, high | 1])

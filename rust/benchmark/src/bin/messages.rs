@@ -3,27 +3,27 @@
 
 use std::process::ExitCode;
 
-use benchmark::measure::{PASSES, Row};
+use benchmark::measure::PASSES;
 use benchmark::messages::{self, RECORDS, YARDSTICKS};
-use benchmark::report::{Style, Table};
+use benchmark::report::{self, Style};
 use benchmark::stack;
 use ivshmem_protocol::{IDS, MAX_VECTORS};
 
 fn main() -> ExitCode {
-    let arguments: Vec<String> = std::env::args().skip(1).collect();
-    let style = match arguments.iter().map(String::as_str).collect::<Vec<_>>()[..] {
-        [] => Style::Terminal,
-        ["--markdown"] => Style::Markdown,
-        _ => {
-            eprintln!("usage: messages [--markdown]");
-            return ExitCode::from(2);
-        }
+    let style = match Style::asked("messages") {
+        Ok(style) => style,
+        Err(code) => return code,
     };
     let stream = messages::stream(RECORDS);
     let cases = messages::cases(&stream);
     let seen: Vec<_> = cases.iter().map(messages::check).collect();
     describe(&seen[1]);
-    print(style, messages::measure_all(&cases));
+    println!(
+        "Nanoseconds of a record, or of a refused call, and library time / yardstick time; medians of {PASSES} passes."
+    );
+    println!("An empty call does nothing: what of a row is the harness. The model allocates at every call.\n");
+    let heads = ["reading", "records", "ns per record"];
+    report::print_rows(style, heads, &YARDSTICKS, messages::measure_all(&cases));
     for depth in stack::reader_depths() {
         println!("Stack of {}, measured: {} bytes at the most.", depth.name, depth.bytes);
     }
@@ -42,20 +42,4 @@ fn describe(seen: &[usize; 8]) {
         share(extra),
         share(left)
     );
-}
-
-fn print(style: Style, rows: Vec<Row>) {
-    println!(
-        "Nanoseconds of a record, or of a refused call, and library time / yardstick time; medians of {PASSES} passes."
-    );
-    println!("An empty call does nothing: what of a row is the harness. The model allocates at every call.\n");
-    let mut table = Table::new(&[&["reading", "records", "ns per record"], &YARDSTICKS[..], &["spread"]].concat());
-    for row in rows {
-        let mut cells = vec![row.name, row.calls.to_string(), format!("{:.1}", row.nanoseconds)];
-        cells.extend(row.ratios.iter().map(|ratio| format!("{ratio:.2}")));
-        cells.resize(3 + YARDSTICKS.len(), String::new());
-        cells.push(row.spread.map(|spread| format!("{:.0} %", 100.0 * spread)).unwrap_or_default());
-        table.add(cells);
-    }
-    table.print(style);
 }
