@@ -121,7 +121,7 @@ enum ivshmem_protocol_server_number {
     IVSHMEM_PROTOCOL_BAD_SERVER = 10,   /* the server's number of vectors is not 1 to IVSHMEM_PROTOCOL_MAX_VECTORS */
     IVSHMEM_PROTOCOL_SHORT_BUFFER = 11, /* the buffer has fewer than IVSHMEM_PROTOCOL_BUFFER_BYTES bytes */
     IVSHMEM_PROTOCOL_FULL = 12,         /* a join: all IVSHMEM_PROTOCOL_IDS ids are taken */
-    IVSHMEM_PROTOCOL_NOT_JOINED = 4     /* a leave: no client with this id has joined */
+    IVSHMEM_PROTOCOL_NOT_JOINED = 4     /* a leave: the id is not joined */
 };
 
 /* How far the reading of a stream has come. All zero is the start. */
@@ -145,7 +145,7 @@ typedef struct ivshmem_protocol_answer {
 
 /* What a server knows: which clients have joined, and how many vectors each has. Any `joined` may be handed in. */
 typedef struct ivshmem_protocol_server {
-    uint64_t joined; /* bit i is 1 where id i has joined */
+    uint64_t joined; /* bit i is 1 where id i is joined */
     uint64_t vectors;
 } ivshmem_protocol_server;
 
@@ -201,7 +201,7 @@ ivshmem_protocol_answer ivshmem_protocol_read(ivshmem_protocol_progress progress
                                               uint64_t vectors, const uint8_t *input, size_t input_length);
 
 /*
- * Answers a server without clients. Each of its clients will have so many vectors.
+ * Answers a server without clients. Each of its clients will have `vectors` vectors.
  *
  * Refused with 1 where that is not 1 to IVSHMEM_PROTOCOL_MAX_VECTORS. The server is then all zero, and its calls are refused
  * with 10.
@@ -215,7 +215,7 @@ ivshmem_protocol_started ivshmem_protocol_start(uint64_t vectors);
  * - to the new client: the version, 0; its id; -1 with the shared memory; for each other client, by ascending id, its id V times,
  *   each time with a vector of that client; then its own id V times, each time with a vector of its own;
  * - then to each other client, by ascending id: the new id V times, each time with a vector of the new client.
- * They are the front of the buffer, IVSHMEM_PROTOCOL_SENT_BYTES bytes each. All bytes behind them stay as they were.
+ * They stand at the front of the buffer, IVSHMEM_PROTOCOL_SENT_BYTES bytes each. All bytes behind them stay as they were.
  *
  * A host makes V descriptors for the new client (eventfd), and sends the messages in the order in which they stand:
  *
@@ -236,7 +236,8 @@ ivshmem_protocol_served ivshmem_protocol_join(ivshmem_protocol_server server, ui
 
 /*
  * The client `id` has gone. To each client that stays, by ascending id, one message is to be sent: the id, without a descriptor.
- * They are the front of the buffer, as those of a join. The host then closes the vectors of the client that left; the id is free.
+ * They stand at the front of the buffer, as those of a join. The host then closes the vectors of the client that left; the id is
+ * free.
  *
  * Refused with 10; then with 11, however many messages there would be; then with 4, also where the id is no id.
  */

@@ -4,6 +4,7 @@
 
 #include <errno.h>
 #include <stdio.h>
+#include <stdlib.h>
 #include <string.h>
 #include <unistd.h>
 
@@ -33,6 +34,10 @@ bool socket_address(struct sockaddr_un *address, const char *path)
     const size_t length = strlen(path);
 
     *address = (struct sockaddr_un){.sun_family = AF_UNIX};
+    if (length == 0) {
+        fprintf(stderr, "the socket's path is empty\n");
+        return false;
+    }
     if (length >= sizeof address->sun_path) {
         errno = ENAMETOOLONG;
         return fails(path);
@@ -103,11 +108,24 @@ ssize_t receive(int socket, struct incoming *message)
 {
     *message = (struct incoming){.descriptor = NONE};
     while (message->received < MESSAGE_BYTES) {
-        const ssize_t bytes = receive_part(socket, message);
+        ssize_t bytes = receive_part(socket, message);
 
+        if (bytes == 0 && message->received != 0) {
+            fprintf(stderr, "the connection ends within a message\n");
+            bytes = -1;
+        }
         if (bytes <= 0)
             return close_descriptor(&message->descriptor) ? bytes : -1;
         message->received += (size_t)bytes;
     }
     return 1;
+}
+
+bool read_number(const char *word, uint64_t *number)
+{
+    char *end;
+
+    errno = 0;
+    *number = strtoull(word, &end, 10);
+    return errno == 0 && *word >= '0' && *word <= '9' && *end == '\0';
 }

@@ -87,19 +87,30 @@ static void store(const struct memory *memory, uint64_t offset, uint64_t byte)
     printf("byte %" PRIu64 " is stored\n", offset);
 }
 
+/* Where a vector that there is cannot be rung, client_ring says why. */
+static void ring(const struct client *client, uint64_t id, uint64_t vector)
+{
+    if (id >= IVSHMEM_PROTOCOL_IDS || vector >= client->counts[id])
+        printf("there is no such vector\n");
+    else if (client_ring(client, id, vector))
+        printf("rung\n");
+}
+
 /* One line of the input. Gives false at the end. */
 static bool obey(const struct client *client, const struct memory *memory)
 {
-    char line[80], more;
+    char line[80], name[80], one[80], other[80], more;
     uint64_t first, second;
+    int words;
 
     if (fgets(line, sizeof line, stdin) == NULL || strcmp(line, "quit\n") == 0)
         return false;
-    if (sscanf(line, "ring %" SCNu64 " %" SCNu64 " %c", &first, &second, &more) == 2)
-        printf(client_ring(client, first, second) ? "rung\n" : "there is no such vector\n");
-    else if (sscanf(line, "load %" SCNu64 " %c", &first, &more) == 1)
+    words = sscanf(line, "%79s %79s %79s %c", name, one, other, &more);
+    if (words == 2 && strcmp(name, "load") == 0 && read_number(one, &first))
         load(memory, first);
-    else if (sscanf(line, "store %" SCNu64 " %" SCNu64 " %c", &first, &second, &more) == 2)
+    else if (words == 3 && strcmp(name, "ring") == 0 && read_number(one, &first) && read_number(other, &second))
+        ring(client, first, second);
+    else if (words == 3 && strcmp(name, "store") == 0 && read_number(one, &first) && read_number(other, &second))
         store(memory, first, second);
     else
         printf("ring ID VECTOR, load OFFSET, store OFFSET BYTE, or quit\n");
@@ -139,11 +150,10 @@ int main(int argc, char **argv)
     struct client client;
     uint64_t vectors = 1;
     int option;
-    char more;
     bool done = true;
 
     while ((option = getopt(argc, argv, "n:")) != -1)
-        done = option == 'n' && sscanf(optarg, "%" SCNu64 "%c", &vectors, &more) == 1 && done;
+        done = option == 'n' && read_number(optarg, &vectors) && done;
     if (!done || optind + 1 != argc) {
         fprintf(stderr, "ivshmem_client [-n VECTORS] SOCKET\n");
         return 2;

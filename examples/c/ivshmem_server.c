@@ -11,9 +11,14 @@
    system: of the permissions of SOCKET and of its directory.
 
    - A client leaves when it closes its connection. One that sends something is disconnected: nothing is to be sent to a server.
-   - A client that does not read holds up the others' joins and leaves for some time, and then no more: where the messages of an
-     event have not all fitted into its socket after two seconds (-w), it is disconnected. It is waited for because a socket holds
-     some hundred messages, and the last of 64 clients with 16 vectors gets 1027 at once.
+   - Clients that do not read hold up the others' joins and leaves, and the server's end, for some time, and then no more: there
+     are two seconds (-w) for all messages of a join, and as long for those of the leaves that are found together; the leaves that
+     follow from these are included. Clients into whose sockets the messages have not all fitted by then are disconnected. They
+     are waited for because a socket holds some hundred messages, and the last of 64 clients with 16 vectors gets 1027 at once.
+   - The system bounds the descriptors that a user's programs have sent and nobody has received by this program's limit of open
+     files, unless it is privileged (ETOOMANYREFS). Clients that do not read can use all of them up, and disconnecting does not
+     free those: a client frees them when it reads or ends. Until then a join disconnects whom it has a descriptor for, the new
+     client and all others, though they read.
    - A 65th client is disconnected at once, without a message.
    - When the server ends, the clients get no message, and may go on with each other. */
 #define _GNU_SOURCE
@@ -23,7 +28,6 @@
 #include <poll.h>
 #include <signal.h>
 #include <stdio.h>
-#include <stdlib.h>
 #include <string.h>
 #include <sys/eventfd.h>
 #include <sys/mman.h>
@@ -34,7 +38,8 @@
 
 #include "descriptors.h"
 
-enum { IDS = IVSHMEM_PROTOCOL_IDS };
+/* What is polled: a socket for each id, then these. */
+enum { IDS = IVSHMEM_PROTOCOL_IDS, LISTENER = IDS, SIGNALS, POLLED };
 
 /* One client's connection and vectors; NONE where the id is free. `gone` where it is to leave. */
 struct connection {
@@ -45,7 +50,8 @@ struct connection {
 
 struct server {
     ivshmem_protocol_server state;
-    int64_t patience; /* milliseconds that a client has for the messages of an event */
+    int64_t patience; /* milliseconds that there are for the messages of an event */
+    int64_t deadline; /* when they are over */
     int signals;
     int listener;
     int memory;
@@ -89,6 +95,8 @@ static bool send_until(int64_t deadline, int socket, const uint8_t *bytes, int d
         else
             poll(NULL, 0, 1);
     }
+    if (sent >= 0 && sent < MESSAGE_BYTES)
+        errno = EIO;
     return sent == MESSAGE_BYTES;
 }
 
@@ -104,21 +112,18 @@ static int descriptor_for(const struct server *server, const ivshmem_protocol_se
 static void send_messages(struct server *server, size_t messages)
 {
     ivshmem_protocol_sent last = {0, 0, 0};
-    int64_t deadline = 0;
     size_t vector = 0;
 
     for (size_t place = 0; place < messages; place++) {
         const ivshmem_protocol_sent sent = ivshmem_protocol_sent_at(server->buffer, place);
         struct connection *client = &server->clients[sent.client];
 
-        if (place == 0 || sent.client != last.client)
-            deadline = milliseconds() + server->patience;
         /* The messages about one client's vectors stand together, vector 0 first. */
         vector = sent.client == last.client && sent.kind == last.kind && sent.number == last.number ? vector + 1 : 0;
         last = sent;
         if (client->gone)
             continue;
-        if (!send_until(deadline, client->socket, ivshmem_protocol_sent_record(server->buffer, place) + 1,
+        if (!send_until(server->deadline, client->socket, ivshmem_protocol_sent_record(server->buffer, place) + 1,
                         descriptor_for(server, &sent, vector))) {
             client->gone = true;
             printf("client %" PRIu32 " cannot be told: %s\n", sent.client,
@@ -175,13 +180,20 @@ static bool admit(struct server *server, int socket)
     return true;
 }
 
+/* One client of those who have connected. Where the system lacks what it takes they wait, and it is soon tried again. */
 static bool accept_client(struct server *server)
 {
     const int socket = accept4(server->listener, NULL, NULL, SOCK_CLOEXEC | SOCK_NONBLOCK);
 
     if (socket >= 0)
         return admit(server, socket);
-    return errno == EAGAIN || errno == EINTR || errno == ECONNABORTED || fails("accept");
+    if (errno == EAGAIN || errno == EINTR || errno == ECONNABORTED)
+        return true;
+    if (errno != EMFILE && errno != ENFILE && errno != ENOBUFS && errno != ENOMEM)
+        return fails("accept");
+    printf("a client has to wait: %s\n", strerror(errno));
+    poll(NULL, 0, 100);
+    return true;
 }
 
 static bool dismiss(struct server *server, uint32_t id)
@@ -214,27 +226,46 @@ static bool dismiss_gone(struct server *server)
     return true;
 }
 
-/* Until a signal comes. Nothing is polled where the descriptor is NONE. */
+/* Polls everything; who has closed the connection or sent something is gone. Nothing is polled where the descriptor is NONE. */
+static bool look(struct server *server, struct pollfd *polled, int timeout)
+{
+    for (size_t id = 0; id < IDS; id++)
+        polled[id] = (struct pollfd){.fd = server->clients[id].socket, .events = POLLIN};
+    polled[LISTENER] = (struct pollfd){.fd = server->listener, .events = POLLIN};
+    polled[SIGNALS] = (struct pollfd){.fd = server->signals, .events = POLLIN};
+    if (poll(polled, POLLED, timeout) < 0 && errno != EINTR)
+        return fails("poll");
+    for (size_t id = 0; id < IDS; id++)
+        server->clients[id].gone = polled[id].revents != 0;
+    return true;
+}
+
+/* The messages of an event, and of the leaves that follow from it, have one deadline: many clients that do not read cost no more
+   time than one. */
+static void begin_event(struct server *server)
+{
+    server->deadline = milliseconds() + server->patience;
+}
+
+/* Until a signal comes. Where a client has connected, the others are looked at once more: poll looks at one descriptor after the
+   other, and one that had closed its connection before may have been missed. Its id is to be free. */
 static bool serve(struct server *server)
 {
-    struct pollfd polled[IDS + 2];
+    struct pollfd polled[POLLED];
 
-    for (;;) {
-        for (size_t id = 0; id < IDS; id++)
-            polled[id] = (struct pollfd){.fd = server->clients[id].socket, .events = POLLIN};
-        polled[IDS] = (struct pollfd){.fd = server->listener, .events = POLLIN};
-        polled[IDS + 1] = (struct pollfd){.fd = server->signals, .events = POLLIN};
-        if (poll(polled, IDS + 2, -1) < 0 && errno != EINTR)
-            return fails("poll");
-        if (polled[IDS + 1].revents != 0)
+    while (look(server, polled, -1)) {
+        if (polled[SIGNALS].revents != 0)
             return true;
-        for (size_t id = 0; id < IDS; id++)
-            server->clients[id].gone = polled[id].revents != 0;
+        if (polled[LISTENER].revents != 0 && !look(server, polled, 0))
+            return false;
+        begin_event(server);
         if (!dismiss_gone(server))
             return false;
-        if (polled[IDS].revents != 0 && !(accept_client(server) && dismiss_gone(server)))
+        begin_event(server);
+        if (polled[LISTENER].revents != 0 && !(accept_client(server) && dismiss_gone(server)))
             return false;
     }
+    return false;
 }
 
 /*
@@ -242,17 +273,17 @@ static bool serve(struct server *server)
  */
 
 /* A socket and the vectors for each id, and some others. The limit that a program starts with is often 1024; it bounds the
-   descriptors under way, too. */
+   descriptors under way, too. Where it cannot be raised, it may be enough as it is. */
 static bool raise_limit(uint64_t vectors)
 {
     const rlim_t needed = IDS * (1 + vectors) + 16;
-    struct rlimit limit;
+    struct rlimit limit, raised;
 
     if (getrlimit(RLIMIT_NOFILE, &limit) != 0)
         return fails("getrlimit");
-    limit.rlim_cur = limit.rlim_max;
-    if (setrlimit(RLIMIT_NOFILE, &limit) != 0)
-        return fails("setrlimit");
+    raised = (struct rlimit){limit.rlim_max, limit.rlim_max};
+    if (setrlimit(RLIMIT_NOFILE, &raised) == 0)
+        limit = raised;
     if (limit.rlim_cur >= needed)
         return true;
     fprintf(stderr, "%ju descriptors are needed, and the limit is %ju\n", (uintmax_t)needed, (uintmax_t)limit.rlim_cur);
@@ -338,15 +369,6 @@ static bool tear_down(struct server *server, const struct options *options)
         done = close_vectors(&server->clients[id]) && done;
     }
     return done;
-}
-
-static bool read_number(const char *text, uint64_t *number)
-{
-    char *end;
-
-    errno = 0;
-    *number = strtoull(text, &end, 10);
-    return errno == 0 && *text >= '0' && *text <= '9' && *end == '\0';
 }
 
 static bool read_options(int argc, char **argv, struct options *options)

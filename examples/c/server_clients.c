@@ -1,6 +1,7 @@
 /* Clients of a real server, over client.c, which hold it to what it should send: the start of a client, joins and leaves as the
-   others hear them, the shared memory, interrupts in both directions, a freed id, all ids taken, a client that does not read, and
-   the server's end. Every wait ends after some seconds. Prints what is not so. examples/c/real_server starts the server for it:
+   others hear them, the shared memory, interrupts in both directions, a freed id, all ids taken, a server that can open nothing
+   for a moment, a client that does not read, and the server's end. Every wait ends after some seconds. Prints what is not so.
+   examples/c/real_server starts the server for it:
 
        server_clients SOCKET BYTES VECTORS PROCESS
 
@@ -12,6 +13,7 @@
 #include <stdlib.h>
 #include <string.h>
 #include <sys/mman.h>
+#include <sys/resource.h>
 #include <sys/stat.h>
 #include <sys/time.h>
 #include <unistd.h>
@@ -22,6 +24,7 @@ enum { IDS = IVSHMEM_PROTOCOL_IDS, WAIT = 20, ALL = 120 /* seconds */ };
 
 static const char *path;
 static uint64_t bytes, vectors;
+static pid_t process; /* the server */
 static bool joined[IDS]; /* who is there */
 static bool keeps = true; /* whether clients keep the vectors; those of many clients are too many descriptors for one program */
 
@@ -195,7 +198,23 @@ static bool leaves_all(struct client *clients, uint32_t id)
     return true;
 }
 
-/* All ids are taken, and one client more is refused; two ids are freed and taken again, the lower first; all leave. */
+/* Connects while the server, which has all ids taken, can open nothing more for a moment. It cannot be held to less than what it
+   polls. */
+static bool connects_early(struct client *client)
+{
+    struct rlimit usual, low;
+    bool done;
+
+    if (prlimit(process, RLIMIT_NOFILE, NULL, &usual) != 0)
+        return fails("prlimit");
+    low = (struct rlimit){IDS + 2, usual.rlim_max};
+    if (prlimit(process, RLIMIT_NOFILE, &low, NULL) != 0)
+        return fails("prlimit");
+    done = connects(client) && usleep(300000) == 0;
+    return (prlimit(process, RLIMIT_NOFILE, &usual, NULL) == 0 || fails("prlimit")) && done;
+}
+
+/* All ids are taken, and one client more is refused; three ids are freed and taken again, the lowest first; all leave. */
 static bool take_all_ids(void)
 {
     static struct client clients[IDS];
@@ -205,7 +224,7 @@ static bool take_all_ids(void)
     for (uint32_t id = 0; id < IDS; id++)
         if (!comes_to_all(clients, id))
             return false;
-    if (!connects(&more) || !hears_end(&more) || !client_end(&more))
+    if (!connects_early(&more) || !hears_end(&more) || !client_end(&more))
         return false;
     if (!leaves_all(clients, 3) || !leaves_all(clients, 40) || !leaves_all(clients, 1) || !comes_to_all(clients, 1)
         || !comes_to_all(clients, 3) || !comes_to_all(clients, 40))
@@ -282,7 +301,7 @@ static bool send_something(void)
 }
 
 /* The server ends; the client's connection is closed, and its vectors and memory are there still. */
-static bool end_server(pid_t process)
+static bool end_server(void)
 {
     struct client one, other;
     bool done = comes(&one, 0) && comes(&other, 1) && hears_vectors(&one, 1);
@@ -303,5 +322,6 @@ int main(int argc, char **argv)
     path = argv[1];
     bytes = strtoull(argv[2], NULL, 10);
     vectors = strtoull(argv[3], NULL, 10);
-    return come_and_go() && take_all_ids() && do_not_read() && send_something() && end_server((pid_t)atol(argv[4])) ? 0 : 1;
+    process = (pid_t)atol(argv[4]);
+    return come_and_go() && take_all_ids() && do_not_read() && send_something() && end_server() ? 0 : 1;
 }

@@ -8,7 +8,7 @@ use server::Started;
 ghost use mathlib.Core.Path.{_≡_};
 ghost use lib.ListN.{length};
 ghost use Rattle.ivshmem_protocol.specs.Promises.{ReadsInNumbers, numbersOf};
-ghost use Rattle.server.specs.Serving.{Serves, start, join, leave};
+ghost use Rattle.server.specs.Serving.{Serves, started, join, leave};
 
 // A message in numbers: its own number, the id that it names, and the vectors that the id has then.
 pub struct MessageNumbers {
@@ -110,7 +110,7 @@ pub extern "C" fn ivshmem_protocol_read(
 // `server::start`.
 #[no_mangle]
 pub extern "C" fn ivshmem_protocol_start(vectors: u64) -> Started
-    ensures { λ r. ⌜ r ≡ start vectors ⌝ }
+    ensures { λ r. ⌜ r ≡ started vectors ⌝ }
 {
     server::start(vectors)
 }

@@ -10,8 +10,9 @@ use Rattle.reader.specs.Sizes.{ids, mostVectors}
 use Rattle.server.specs.declared.Server.{Server}
 use Rattle.server.specs.Clients.{isJoined, joinedAt, joinedBelow, freeFrom, lowestFree}
 use Rattle.server.specs.Histories.{Act, joining, leaving, outcome}
-use Rattle.server.specs.Messages.{eachOf, toJoiner, toOthers, joinMessages, leaveMessages, unsigned, bytesOf, sentBytes, allBytes, mostSent, bufferBytes}
-use Rattle.server.specs.Serving.{Outcome, serverOf, inRange, start, joins, leaves, refusal, join, leave}
+use Rattle.server.specs.Messages.{eachOf, toJoiner, toOthers, joinMessages, leaveMessages, unsigned, bytesOf, sentBytes}
+use Rattle.server.specs.Messages.{allBytes, mostSent, bufferBytes}
+use Rattle.server.specs.Serving.{Outcome, serverOf, inRange, started, joins, leaves, refusal, join, leave}
 
 -- the number, the id, how many messages there are, and who is joined then
 abbrev row : (number id messages joined : ℕ) → List ℕ
@@ -24,28 +25,35 @@ pub rows : Server → List Act → List (List ℕ)
 rows s [] = []
 rows s (a ∷ later) = rowOf (outcome a s) ∷ rows (outcome a s .server) later
 
--- the first join and three more; of two holes the lower is taken first; ids that are not joined; all leave, and one comes back
+-- the first join and three more; of two holes the lower is taken first; ids that are not joined, and a buffer that is too small; all
+-- leave, and one comes back
+abbrev joins-in : Act
+joins-in = joining 20350
+
+abbrev leaves-in : ℕ → Act
+leaves-in id = leaving id 20350
+
 pub tried : List Act
 tried =
-    joining ∷ joining ∷ joining ∷ joining
-    ∷ leaving 2 ∷ leaving 1 ∷ joining ∷ joining
-    ∷ leaving 4 ∷ leaving 64
-    ∷ leaving 0 ∷ leaving 1 ∷ leaving 3 ∷ leaving 2 ∷ leaving 2 ∷ joining
+    joins-in ∷ joins-in ∷ joins-in ∷ joins-in
+    ∷ leaves-in 2 ∷ leaves-in 1 ∷ joins-in ∷ joins-in
+    ∷ leaves-in 4 ∷ leaves-in 64 ∷ joining 20349 ∷ leaving 0 20349
+    ∷ leaves-in 0 ∷ leaves-in 1 ∷ leaves-in 3 ∷ leaves-in 2 ∷ leaves-in 2 ∷ joins-in
     ∷ []
 
 pub few-clients : rows (serverOf 0 1) tried
     ≡ row 0 0 4 0x1 ∷ row 0 1 6 0x3 ∷ row 0 2 8 0x7 ∷ row 0 3 10 0xF
     ∷ row 0 2 3 0xB ∷ row 0 1 2 0x9 ∷ row 0 1 8 0xB ∷ row 0 2 10 0xF
-    ∷ row 4 0 0 0xF ∷ row 4 0 0 0xF
+    ∷ row 4 0 0 0xF ∷ row 4 0 0 0xF ∷ row 11 0 0 0xF ∷ row 11 0 0 0xF
     ∷ row 0 0 3 0xE ∷ row 0 1 2 0xC ∷ row 0 3 1 0x4 ∷ row 0 2 0 0x0 ∷ row 4 0 0 0x0 ∷ row 0 0 4 0x1
     ∷ []
-unfolding tried rows joins leaves lowestFree freeFrom isJoined ids joinMessages toJoiner toOthers leaveMessages eachOf joinedBelow joinedAt
+unfolding tried rows join leave refusal first inRange mostVectors bufferBytes mostSent joins leaves lowestFree freeFrom isJoined ids joinMessages toJoiner toOthers leaveMessages eachOf joinedBelow joinedAt
 few-clients = refl
 
 -- 64 joins, and one more
-pub all-clients : rows (serverOf 0 1) (replicate 65 joining)
+pub all-clients : rows (serverOf 0 1) (replicate 65 joins-in)
     ≡ tabulate 64 (λ k. row 0 k (4 + 2 * k) (2 ^ (k + 1) - 1)) ++ row 12 0 0 (2 ^ 64 - 1) ∷ []
-unfolding rows joins lowestFree freeFrom isJoined ids joinMessages toJoiner toOthers eachOf joinedBelow joinedAt tabulate
+unfolding rows join leave refusal first inRange mostVectors bufferBytes mostSent joins lowestFree freeFrom isJoined ids joinMessages toJoiner toOthers eachOf joinedBelow joinedAt tabulate
 all-clients = refl
 
 -- the largest join fills the buffer
@@ -75,28 +83,32 @@ pub refusals :
 unfolding numbers join leave joins leaves refusal first inRange mostVectors bufferBytes mostSent lowestFree freeFrom isJoined ids
 refusals = refl
 
-pub starts : map (λ vectors. start vectors .number) (0 ∷ 1 ∷ 16 ∷ 17 ∷ []) ≡ 1 ∷ 0 ∷ 0 ∷ 1 ∷ []
-unfolding start inRange mostVectors
+pub starts : map (λ vectors. started vectors .number) (0 ∷ 1 ∷ 16 ∷ 17 ∷ []) ≡ 1 ∷ 0 ∷ 0 ∷ 1 ∷ []
+unfolding started inRange mostVectors
 starts = refl
 
--- the bytes of a second join with two vectors, and of its leave
+-- the bytes of a join with two vectors between two others, and of a leave
 abbrev ten : (client kind number : ℕ) → List ℕ
 ten client kind number = client ∷ kind ∷ number ∷ 0 ∷ 0 ∷ 0 ∷ 0 ∷ 0 ∷ 0 ∷ 0 ∷ []
 
-pub join-written : allBytes (joins (serverOf 1 2) .sent)
+pub join-written : allBytes (joins (serverOf 5 2) .sent)
     ≡ ten 1 0 0
     ++ ten 1 0 1
     ++ (1 ∷ 1 ∷ 255 ∷ 255 ∷ 255 ∷ 255 ∷ 255 ∷ 255 ∷ 255 ∷ 255 ∷ [])
     ++ ten 1 1 0
     ++ ten 1 1 0
+    ++ ten 1 1 2
+    ++ ten 1 1 2
     ++ ten 1 1 1
     ++ ten 1 1 1
     ++ ten 0 1 1
     ++ ten 0 1 1
+    ++ ten 2 1 1
+    ++ ten 2 1 1
 unfolding joins lowestFree freeFrom isJoined ids joinMessages toJoiner toOthers eachOf joinedBelow joinedAt allBytes sentBytes bytesOf unsigned
     bytes
 join-written = refl
 
-pub leave-written : allBytes (leaves (serverOf 3 2) 1 .sent) ≡ ten 0 0 1
+pub leave-written : allBytes (leaves (serverOf 7 2) 1 .sent) ≡ ten 0 0 1 ++ ten 2 0 1
 unfolding leaves isJoined ids leaveMessages eachOf joinedBelow joinedAt allBytes sentBytes bytesOf unsigned bytes
 leave-written = refl

@@ -2,28 +2,28 @@
 use Prim.Native.Nat.{ℕ, _≤_, _<_}
 use mathlib.Core.Bool.{true, false, cond, not, _&&_, true≢false}
 use mathlib.Core.List.{List, [], _∷_, _++_, append-nil}
-use mathlib.Core.Path.{_≡_, refl, sym, ap, _∙_}
-use native.Mathlib.Omega.{arith}
-use lib.ListN.{length}
+use mathlib.Core.Path.{_≡_, refl, sym, _∙_}
 use Rattle.common.proofs.TestLaws.{by-equal, and-false}
 use Rattle.common.specs.Streams.{joined}
-use Rattle.reader.proofs.Cutting.{byBytes, every-stream-is-read, pieces-are-bytes}
+use Rattle.reader.proofs.Cutting.{every-stream-is-read, pieces-are-bytes}
 use Rattle.reader.proofs.Keeping.{start-is-good}
 use Rattle.reader.proofs.ReadLaws.{by-bool, by-less}
 use Rattle.reader.specs.Reading.{start, refusal}
 use Rattle.reader.specs.Records.{Record}
-use Rattle.reader.specs.Sizes.{ids, mostVectors}
+use Rattle.reader.specs.Sizes.{ids}
 use Rattle.reader.specs.Steps.{known}
 use Rattle.server.specs.declared.Server.{Server}
 use Rattle.server.proofs.FreeLaws.{lowest-is-free}
-use Rattle.server.proofs.JoinedLaws.{joined-below, none-joined, with-same, with-other, without-same, without-other}
+use Rattle.server.proofs.JoinedLaws.{none-joined, with-same, with-other, without-same, without-other}
 use Rattle.server.proofs.RecordLaws.{for-append, for-own, for-other, for-joined, for-free}
-use Rattle.server.proofs.ServeLaws.{joins-free, joins-full, leaves-joined, leaves-free}
+use Rattle.server.proofs.ServeLaws.{nobody, started-vectors, by-join, by-leave, joins-free, joins-full, leaves-joined, leaves-free}
 use Rattle.server.proofs.TellLaws.{Told, told-joiner, told-join, told-leave}
 use Rattle.server.specs.Clients.{isJoined, joinedWith, joinedWithout, clients, lowestFree}
-use Rattle.server.specs.Histories.{Act, joining, leaving, outcome, recordsFor, Seen, isThere, next, seenFrom, seen, stream, countsOf, Follows, ReadersFollow, PeersAreNow, StrangersHearNothing, LeaversHearNothing, JoinersStartAfresh}
-use Rattle.server.specs.Messages.{vectorsOf, leftBy, toJoiner, toOthers, joinMessages, leaveMessages}
-use Rattle.server.specs.Serving.{Outcome, serverOf, refusedBy, joinAs, leaveAs, joins, leaves}
+use Rattle.server.specs.Histories.{Act, joining, leaving, outcome, recordsFor, Seen, isThere, next, seenFrom, seen, stream}
+use Rattle.server.specs.Histories.{countsOf, ReadersFollow, PeersAreNow, LeaversKeep, LeaversHearNothing}
+use Rattle.server.specs.Histories.{JoinersStartAfresh}
+use Rattle.server.specs.Messages.{vectorsOf, hasLeft, toJoiner, toOthers, joinMessages, leaveMessages}
+use Rattle.server.specs.Serving.{Outcome, serverOf, started, refusedBy, joinAs, leaveAs}
 
 -- what a call is to one client: the state that it leaves, and the records that it has for the client
 data Happens (client : ℕ) (s : Server) : Server → List Record → Type 0 where
@@ -33,7 +33,7 @@ data Happens (client : ℕ) (s : Server) : Server → List Record → Type 0 whe
   otherJoins : (id : ℕ) → id < ids → isJoined (s .joined) id ≡ false → (client ≡ id → ⊥) → isThere client s ≡ true
       → Happens client s (serverOf (joinedWith (s .joined) id) (s .vectors)) (vectorsOf (s .vectors) id)
   otherLeaves : (id : ℕ) → isJoined (s .joined) id ≡ true → (client ≡ id → ⊥) → isThere client s ≡ true
-      → Happens client s (serverOf (joinedWithout (s .joined) id) (s .vectors)) (leftBy id ∷ [])
+      → Happens client s (serverOf (joinedWithout (s .joined) id) (s .vectors)) (hasLeft id ∷ [])
   notThere : (now : Server) → now .vectors ≡ s .vectors → isThere client now ≡ false → Happens client s now []
 
 abbrev Is : (client : ℕ) → Server → Outcome → Type 0
@@ -86,23 +86,25 @@ module _ (client : ℕ) (s : Server) where
         by-equal id client
         (λ same.
         let gone : isJoined left client ≡ false = rw (← same) (without-same (s .joined) id e) in
-        rw (for-free client left (leftBy id ∷ []) gone) (notThere (serverOf left (s .vectors)) refl gone))
+        rw (for-free client left (hasLeft id ∷ []) gone) (notThere (serverOf left (s .vectors)) refl gone))
         (λ o.
         let away : client ≡ id → ⊥ = λ e. o (sym e) in
         let alike = without-other (s .joined) id e client away in
         by-bool (isThere client s)
-        (λ there. rw (for-joined client left (leftBy id ∷ []) (alike ∙ there)) (otherLeaves id e away there))
+        (λ there. rw (for-joined client left (hasLeft id ∷ []) (alike ∙ there)) (otherLeaves id e away there))
         (λ gone.
-        rw (for-free client left (leftBy id ∷ []) (alike ∙ gone)) (notThere (serverOf left (s .vectors)) refl (alike ∙ gone))))
+        rw (for-free client left (hasLeft id ∷ []) (alike ∙ gone)) (notThere (serverOf left (s .vectors)) refl (alike ∙ gone))))
 
 happens : (client : ℕ) (s : Server) (a : Act) → Is client s (outcome a s)
-happens client s joining =
-    by-less (lowestFree (s .joined)) ids
+happens client s (joining room) =
+    by-join s room (Is client s) (is-refused client s)
+    (by-less (lowestFree (s .joined)) ids
     (λ l. rw (joins-free s l) (of-join client s (lowestFree (s .joined)) l (lowest-is-free (s .joined) .free)))
-    (λ l. rw (joins-full s l) (is-refused client s 12))
-happens client s (leaving id) =
-    by-bool (isJoined (s .joined) id) (λ e. rw (leaves-joined s id e) (of-leave client s id e))
-    (λ e. rw (leaves-free s id e) (is-refused client s 4))
+    (λ l. rw (joins-full s l) (is-refused client s 12)))
+happens client s (leaving id room) =
+    by-leave s room (Is client s) (is-refused client s) id
+    (by-bool (isJoined (s .joined) id) (λ e. rw (leaves-joined s id e) (of-leave client s id e))
+    (λ e. rw (leaves-free s id e) (is-refused client s 4)))
 
 -- no record for one that is not there afterwards, and for one that was not there before all that a joiner is told
 module _ {client : ℕ} {s : Server} where
@@ -148,11 +150,16 @@ module _ (client : ℕ) (v : Seen) (now : Server) where
       → moved client v now records ≡ seenAs now (v .heard ++ records) (now .joined)
   moved-on records f e = rw (f, e)
 
+pub leavers-keep : LeaversKeep
+unfolding next
+leavers-keep client v a gone =
+    let now = outcome a (v .server) .server in
+    rw (leavers-hear-nothing client (v .server) a gone, moved-quiet client v now gone) (record { heard = refl; peers = refl })
+
 -- what stays true: with a number of vectors in its range, the records for the client are all in their places
 record Stays (vectors client : ℕ) (v : Seen) : Type 0 where
   same : v .server .vectors ≡ vectors
   now : isThere client (v .server) ≡ true → v .peers ≡ v .server .joined
-  never : isJoined (v .peers) client ≡ false → v .heard ≡ []
   told : 1 ≤ vectors → refusal vectors start ≡ 0 → isJoined (v .peers) client ≡ true
       → Told vectors (v .heard) (known 3 client (countsOf vectors (v .peers)))
 
@@ -170,7 +177,6 @@ module _ (vectors client : ℕ) (v : Seen) (k : Stays vectors client v) where
       record {
         same = e ∙ k .same;
         now = λ _. refl;
-        never = λ f. absurd (true≢false (sym there ∙ f));
         told = λ some good _. t some good;
       }
 
@@ -178,9 +184,10 @@ module _ (vectors client : ℕ) (v : Seen) (k : Stays vectors client v) where
   stays-quiet : (now : Server) → now .vectors ≡ v .server .vectors → isThere client now ≡ false
       → Stays vectors client (seenAs now (v .heard) (v .peers))
   stays-quiet now e gone =
-      record { same = e ∙ k .same; now = λ there. absurd (true≢false (sym there ∙ gone)); never = k .never; told = k .told }
+      record { same = e ∙ k .same; now = λ there. absurd (true≢false (sym there ∙ gone)); told = k .told }
 
-  stays-one : {now : Server} {records : List Record} → Happens client (v .server) now records → Stays vectors client (moved client v now records)
+  stays-one : {now : Server} {records : List Record} → Happens client (v .server) now records
+      → Stays vectors client (moved client v now records)
   stays-one refused =
       by-bool (isThere client (v .server))
       (λ e.
@@ -202,44 +209,61 @@ module _ (vectors client : ℕ) (v : Seen) (k : Stays vectors client v) where
   stays-one (otherLeaves id j o e) =
       let now = serverOf (joinedWithout (v .server .joined) id) (v .server .vectors) in
       let there : isThere client now ≡ true = without-other (v .server .joined) id j client o ∙ e in
-      rw (moved-on client v now (leftBy id ∷ []) e there)
-      (stays-there now (v .heard ++ leftBy id ∷ []) refl there
+      rw (moved-on client v now (hasLeft id ∷ []) e there)
+      (stays-there now (v .heard ++ hasLeft id ∷ []) refl there
       (λ some good.
       told-leave vectors good (v .server .joined) client id (v .heard) (told-now e some good) j (λ same. o (sym same)) some))
   stays-one (notThere now e gone) = rw (moved-quiet client v now gone) (stays-quiet now e gone)
 
 -- through a history
-module _ (vectors client : ℕ) where
-  stays-all : (history : List Act) (v : Seen) → Stays vectors client v → Stays vectors client (seenFrom client v history)
+module _ (client : ℕ) where
+  stays-all : (vectors : ℕ) (history : List Act) (v : Seen) → Stays vectors client v → Stays vectors client (seenFrom client v history)
   unfolding seenFrom next
-  stays-all [] v k = k
-  stays-all (a ∷ later) v k =
-      stays-all later (next client v (outcome a (v .server))) (stays-one vectors client v k (happens client (v .server) a))
+  stays-all vectors [] v k = k
+  stays-all vectors (a ∷ later) v k =
+      stays-all vectors later (next client v (outcome a (v .server))) (stays-one vectors client v k (happens client (v .server) a))
 
-  always : (history : List Act) → Stays vectors client (seen vectors client history)
-  always history =
-      stays-all history (seenAs (serverOf 0 vectors) [] 0)
-      (record {
-        same = refl;
-        now = λ e. refl;
-        never = λ e. refl;
-        told = λ some good e. absurd (true≢false (sym e ∙ none-joined client));
-      })
+  -- one after the other
+  seen-then : (before later : List Act) (v : Seen) → seenFrom client v (before ++ later) ≡ seenFrom client (seenFrom client v before) later
+  unfolding seenFrom
+  seen-then [] later v = refl
+  seen-then (a ∷ before) later v = seen-then before later (next client v (outcome a (v .server)))
+
+  -- the client stays among its own peers
+  peers-one : (v : Seen) (o : Outcome) → isJoined (v .peers) client ≡ true → isJoined (next client v o .peers) client ≡ true
+  unfolding next
+  peers-one v o e = by-bool (isThere client (o .server)) (λ there. rw there there) (λ gone. rw gone e)
+
+  peers-all : (later : List Act) (v : Seen) → isJoined (v .peers) client ≡ true → isJoined (seenFrom client v later .peers) client ≡ true
+  unfolding seenFrom
+  peers-all [] v e = e
+  peers-all (a ∷ later) v e = peers-all later (next client v (outcome a (v .server))) (peers-one v (outcome a (v .server)) e)
+
+  always : (vectors : ℕ) (history : List Act) → Stays (started vectors .server .vectors) client (seen vectors client history)
+  always vectors history =
+      stays-all (started vectors .server .vectors) history (seenAs (started vectors .server) [] 0)
+      (record { same = refl; now = λ e. sym (nobody vectors); told = λ some good e. absurd (true≢false (sym e ∙ none-joined client)) })
+
+pub peers-are-now : PeersAreNow
+peers-are-now vectors client history e = always client vectors history .now e
+
+-- a client that was joined is among its peers, and stays there
+was-joined : (vectors client : ℕ) (before later : List Act) → isThere client (seen vectors client before .server) ≡ true
+    → isJoined (seen vectors client (before ++ later) .peers) client ≡ true
+was-joined vectors client before later e =
+    let v = seen vectors client before in
+    rw (seen-then client before later (seenAs (started vectors .server) [] 0))
+    (peers-all client later v (rw (peers-are-now vectors client before e) e))
 
 pub readers-follow : ReadersFollow
-readers-follow vectors client history some most e =
+readers-follow vectors client before later some most e =
     let good = start-is-good vectors some most in
-    let t = always vectors client history .told some good e in
+    let told = rw (started-vectors vectors some most) at (always client vectors (before ++ later) .told) in
+    let t = told some good (was-joined vectors client before later e) in
     record {
       messages = t .messages;
       one = t .one;
       plain = t .plain;
       cut = λ pieces whole. pieces-are-bytes vectors pieces start refl good ∙ rw whole (t .there);
-      calls = rw (t .there) at (every-stream-is-read vectors start (stream (seen vectors client history .heard)) good);
+      calls = rw (t .there) at (every-stream-is-read vectors start (stream (seen vectors client (before ++ later) .heard)) good);
     }
-
-pub peers-are-now : PeersAreNow
-peers-are-now vectors client history e = always vectors client history .now e
-
-pub strangers-hear-nothing : StrangersHearNothing
-strangers-hear-nothing vectors client history e = always vectors client history .never e

@@ -1,18 +1,19 @@
 -- The lowest free id, and how many ids are joined.
 use Prim.Native.Nat.{ℕ, zero, suc, _+_, _-_, _/_, _≤_, _<_, _^_}
-use mathlib.Core.Bool.{true, false, not}
+use mathlib.Core.Bool.{true, false, not, true≢false}
 use mathlib.Core.List.{List, [], _∷_, _++_, append-nil}
-use mathlib.Core.Path.{_≡_, refl, sym, ap, _∙_}
+use mathlib.Core.Path.{_≡_, refl, sym, _∙_}
 use native.Mathlib.Omega.{arith}
 use lib.Dec.{eqb, ltb}
-use lib.ListN.{length, length-append}
+use lib.ListN.{length, getD, length-append, List·getD-append}
+use lib.Seq.{getD-append-seam}
 use borrow.Author.Tests.{eqb-true, lt-ltb, ltb-true, not-false}
 use Rattle.common.proofs.TestLaws.{and-left, by-equal}
 use Rattle.reader.proofs.ReadLaws.{by-bool, by-less}
 use Rattle.reader.specs.Sizes.{ids}
-use Rattle.server.proofs.JoinedLaws.{joined-beyond, bits-gone}
+use Rattle.server.proofs.JoinedLaws.{joined-below, joined-beyond, bits-gone}
 use Rattle.server.proofs.ListLaws.{each-append}
-use Rattle.server.specs.Clients.{isJoined, joinedAt, joinedBelow, clients, freeFrom, lowestFree, Lowest, LowestIsFree}
+use Rattle.server.specs.Clients.{isJoined, joinedAt, joinedBelow, clients, freeFrom, lowestFree, Lowest, ClientsAreListed}
 use Rattle.server.specs.Messages.{eachOf}
 use Rattle.server.specs.Parts.{anyFrom}
 
@@ -37,7 +38,7 @@ lowest-from (suc n) id joined s b =
     (λ i l. by-equal i id (λ same. rw same e) (λ other. b i (omega arith)))))
     (λ e. rw e (record { within = omega arith; free = e; before = b }))
 
-pub lowest-is-free : LowestIsFree
+pub lowest-is-free : (joined : ℕ) → Lowest joined (lowestFree joined)
 unfolding lowestFree
 lowest-is-free joined = lowest-from ids 0 joined (omega arith) (λ i l. absurd (omega arith))
 
@@ -121,3 +122,75 @@ module _ (joined id : ℕ) (e : anyFrom joined id ≡ false) where
 
   pub all-below : id ≤ ids → clients joined ≡ joinedBelow id joined
   all-below l = let n : ids - id + id ≡ ids = omega arith in rw n at (same-below (ids - id))
+
+-- the list of joined ids below a number: all of them, ascending, and all below it
+record ListedBelow (joined n : ℕ) (to : List ℕ) : Type 0 where
+  only : (k : ℕ) → k < length to → (isJoined joined (getD to k 0) ≡ true) × (getD to k 0 < n)
+  all : (id : ℕ) → id < n → isJoined joined id ≡ true → (k : ℕ) × ((k < length to) × (getD to k 0 ≡ id))
+  ascending : (j k : ℕ) → j < k → k < length to → getD to j 0 < getD to k 0
+
+-- one that is not joined
+listed-same : (joined n : ℕ) (to : List ℕ) → isJoined joined n ≡ false → ListedBelow joined n to → ListedBelow joined (suc n) to
+listed-same joined n to free l =
+    record {
+      only = λ k h. (l .only k h .0, omega (arith, l .only k h .1));
+      all = λ id h e. by-equal id n (λ same. absurd (true≢false (sym e ∙ rw same free))) (λ o. l .all id (omega arith) e);
+      ascending = l .ascending;
+    }
+
+-- one more, at the end
+module _ (joined n : ℕ) (to : List ℕ) (e : isJoined joined n ≡ true) (l : ListedBelow joined n to) where
+  longer : length (to ++ n ∷ []) ≡ length to + 1
+  longer = length-append to (n ∷ [])
+
+  old : (k : ℕ) → k < length to → getD (to ++ n ∷ []) k 0 ≡ getD to k 0
+  old k h = List·getD-append to (n ∷ []) 0 k h
+
+  last : (k : ℕ) → (k < length to → ⊥) → k < length (to ++ n ∷ []) → getD (to ++ n ∷ []) k 0 ≡ n
+  last k not h = let is : k ≡ length to = omega (arith, longer) in rw is (getD-append-seam to n [] 0)
+
+  listed-only : (k : ℕ) → k < length (to ++ n ∷ [])
+      → (isJoined joined (getD (to ++ n ∷ []) k 0) ≡ true) × (getD (to ++ n ∷ []) k 0 < suc n)
+  listed-only k h =
+      by-less k (length to) (λ b. rw (old k b) (l .only k b .0, omega (arith, l .only k b .1)))
+      (λ b. rw (last k (λ s. absurd (omega arith)) h) (e, omega arith))
+
+  listed-ascending : (j k : ℕ) → j < k → k < length (to ++ n ∷ []) → getD (to ++ n ∷ []) j 0 < getD (to ++ n ∷ []) k 0
+  listed-ascending j k less h =
+      by-less k (length to) (λ b. rw (old k b, old j (omega arith)) (l .ascending j k less b))
+      (λ b.
+      let front : j < length to = omega (arith, longer) in
+      rw (last k (λ s. absurd (omega arith)) h, old j front) (l .only j front .1))
+
+  listed-all : (id : ℕ) → id < suc n → isJoined joined id ≡ true
+      → (k : ℕ) × ((k < length (to ++ n ∷ [])) × (getD (to ++ n ∷ []) k 0 ≡ id))
+  listed-all id h there =
+      by-equal id n (λ same. (length to, (omega (arith, longer), getD-append-seam to n [] 0 ∙ sym same)))
+      (λ o.
+      let at = l .all id (omega arith) there in
+      (at .0, (omega (arith, longer, at .1 .0), old (at .0) (at .1 .0) ∙ at .1 .1)))
+
+  listed-more : ListedBelow joined (suc n) (to ++ n ∷ [])
+  listed-more = record { only = listed-only; all = listed-all; ascending = listed-ascending }
+
+listed-below : (joined n : ℕ) → ListedBelow joined n (joinedBelow n joined)
+unfolding joinedBelow
+listed-below joined zero =
+    record {
+      only = λ k h. absurd (omega arith);
+      all = λ id h e. absurd (omega arith);
+      ascending = λ j k l h. absurd (omega arith);
+    }
+listed-below joined (suc n) =
+    by-joined joined (λ x. ListedBelow joined (suc n) (joinedBelow n joined ++ x)) n
+    (λ e. listed-more joined n (joinedBelow n joined) e (listed-below joined n))
+    (λ e. rw (append-nil (joinedBelow n joined)) (listed-same joined n (joinedBelow n joined) e (listed-below joined n)))
+
+pub clients-are-listed : ClientsAreListed
+clients-are-listed joined =
+    let l = listed-below joined ids in
+    record {
+      only = λ k h. l .only k h .0;
+      all = λ id e. l .all id (joined-below joined id e) e;
+      ascending = l .ascending;
+    }

@@ -1,6 +1,6 @@
 -- Ids as the bits of a number: what joining and leaving change, and what they leave.
 use Prim.Native.Nat.{ℕ, zero, suc, _+_, _-_, _*_, _/_, _%_, _^_, _≤_, _<_}
-use mathlib.Core.Bool.{true, false, _&&_}
+use mathlib.Core.Bool.{true, false}
 use mathlib.Core.Path.{_≡_, refl, sym, ap, _∙_}
 use native.Mathlib.Nat.{pow-suc, zero-div}
 use native.Mathlib.Omega.{arith}
@@ -8,10 +8,10 @@ use lib.Dec.{eqb, ltb}
 use lib.Pow.{pow-lt, shr-shr}
 use borrow.Author.Tests.{eqb-true, eqb-false, eq-eqb, ne-eqb, lt-ltb, ltb-true, le-ltb}
 use Rattle.common.specs.Bytes.{bit}
-use Rattle.common.proofs.TestLaws.{and-left, and-false}
+use Rattle.common.proofs.TestLaws.{and-left, and-false, by-equal}
 use Rattle.reader.proofs.ReadLaws.{by-bool}
 use Rattle.reader.specs.Sizes.{ids}
-use Rattle.server.specs.Clients.{isJoined, joinedWith, joinedWithout}
+use Rattle.server.specs.Clients.{isJoined, joinedWith, joinedWithout, JoiningAddsOne, LeavingRemovesOne}
 
 -- the lowest bit, and each other one by the half
 bit-zero : (x : ℕ) → bit 0 x ≡ eqb (x % 2) 1
@@ -158,3 +158,12 @@ none-joined i = and-false (ltb i ids) (bit i 0) (no-bit i)
 pub one-shifted : (i : ℕ) → i < ids → 1 * 2 ^ i % 2 ^ 64 ≡ 2 ^ i
 unfolding ids
 one-shifted i h = let l : 2 ^ i < 2 ^ 64 = pow-lt h in omega arith
+
+-- one id, and no other
+pub joining-adds-one : JoiningAddsOne
+joining-adds-one x i h e j =
+    by-equal j i (λ same. rw (same, eq-eqb i i refl) (with-same x i h e)) (λ o. rw (ne-eqb j i o) (with-other x i h e j o))
+
+pub leaving-removes-one : LeavingRemovesOne
+leaving-removes-one x i e j =
+    by-equal j i (λ same. rw (same, eq-eqb i i refl) (without-same x i e)) (λ o. rw (ne-eqb j i o) (without-other x i e j o))

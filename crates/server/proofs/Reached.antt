@@ -1,23 +1,25 @@
 -- The theorems of specs/Reached: all ids join, and then those leave that the state does not have.
-use Prim.Native.Nat.{ℕ, zero, suc, _+_, _-_, _/_, _%_, _≤_, _<_, _^_}
-use mathlib.Core.Bool.{Bool, true, false, cond, _&&_, true≢false}
+use Prim.Native.Nat.{ℕ, suc, _+_, _-_, _<_, _^_}
+use mathlib.Core.Bool.{Bool, true, false, cond, true≢false}
 use mathlib.Core.List.{List, [], _∷_, _++_}
 use mathlib.Core.Path.{_≡_, refl, sym, ap, _∙_}
 use native.Mathlib.Omega.{arith}
 use lib.Dec.{ltb}
-use borrow.Author.Tests.{lt-ltb, le-ltb, ltb-true}
-use Rattle.common.proofs.TestLaws.{by-equal, alike}
+use borrow.Author.Tests.{lt-ltb, le-ltb}
+use Rattle.common.proofs.TestLaws.{by-equal}
 use Rattle.reader.proofs.Reached.{climb}
 use Rattle.reader.proofs.ReadLaws.{by-bool, by-less}
 use Rattle.reader.specs.Sizes.{ids}
 use Rattle.server.specs.declared.Server.{Server}
 use Rattle.server.proofs.FreeLaws.{lowest-is-free}
-use Rattle.server.proofs.JoinedLaws.{same-bits, joined-below, joined-beyond, none-joined, with-same, with-other, with-fits, without-same, without-other, joined-le}
-use Rattle.server.proofs.ServeLaws.{joins-free, joins-full, leaves-joined, leaves-free}
+use Rattle.server.proofs.JoinedLaws.{same-bits, joined-beyond, none-joined, with-same, with-other, with-fits, without-same}
+use Rattle.server.proofs.JoinedLaws.{without-other}
+use Rattle.server.proofs.ServeLaws.{started-in, in-range, not-refused, by-join, by-leave, join-goes-on, leave-goes-on, joins-free, joins-full, leaves-joined, leaves-free}
 use Rattle.server.specs.Clients.{isJoined, joinedWith, joinedWithout, lowestFree}
 use Rattle.server.specs.Histories.{Act, joining, leaving, outcome}
-use Rattle.server.specs.Reached.{after, Reaches, EveryStateIsReached, Sound, ReachedIsSound}
-use Rattle.server.specs.Serving.{Outcome, serverOf}
+use Rattle.server.specs.Messages.{bufferBytes}
+use Rattle.server.specs.Reached.{after, EveryStateIsReached, ReachedIsSound}
+use Rattle.server.specs.Serving.{Outcome, serverOf, inRange, started}
 
 after-then : (first second : List Act) (s : Server) → after s (first ++ second) ≡ after (after s first) second
 unfolding after
@@ -28,7 +30,7 @@ after-then (a ∷ first) second s = after-then first second (outcome a s .server
 record Leaves (vectors : ℕ) (t : ℕ → Bool) : Type 0 where
   history : List Act
   joined : ℕ
-  left : after (serverOf 0 vectors) history ≡ serverOf joined vectors
+  left : after (started vectors .server) history ≡ serverOf joined vectors
   fits : joined < 2 ^ 64
   are : (id : ℕ) → isJoined joined id ≡ t id
 
@@ -41,7 +43,7 @@ one-more vectors t u l a next e f are =
     record {
       history = l .history ++ a ∷ [];
       joined = next;
-      left = after-then (l .history) (a ∷ []) (serverOf 0 vectors) ∙ rw (l .left) e;
+      left = after-then (l .history) (a ∷ []) (started vectors .server) ∙ rw (l .left) e;
       fits = f;
       are = are;
     }
@@ -51,8 +53,18 @@ retold : {vectors : ℕ} (t u : ℕ → Bool) → ((id : ℕ) → t id ≡ u id)
 retold t u same l =
     record { history = l .history; joined = l .joined; left = l .left; fits = l .fits; are = λ id. l .are id ∙ same id }
 
+-- a join and a leave in a buffer with room
+module _ (s : Server) (range : inRange (s .vectors) ≡ true) where
+  with-room : lowestFree (s .joined) < ids
+      → outcome (joining bufferBytes) s .server ≡ serverOf (joinedWith (s .joined) (lowestFree (s .joined))) (s .vectors)
+  with-room l = ap (λ (o : Outcome). o .server) (join-goes-on s bufferBytes (not-refused s range) ∙ joins-free s l)
+
+  left-with-room : (id : ℕ) → isJoined (s .joined) id ≡ true
+      → outcome (leaving id bufferBytes) s .server ≡ serverOf (joinedWithout (s .joined) id) (s .vectors)
+  left-with-room id e = ap (λ (o : Outcome). o .server) (leave-goes-on s bufferBytes id (not-refused s range) ∙ leaves-joined s id e)
+
 -- the first n ids are joined
-module _ (vectors : ℕ) where
+module _ (vectors : ℕ) (range : inRange vectors ≡ true) where
   abbrev First : ℕ → Type 0
   First n = Leaves vectors (λ id. ltb id n)
 
@@ -62,7 +74,7 @@ module _ (vectors : ℕ) where
       record {
         history = [];
         joined = 0;
-        left = refl;
+        left = started-in vectors range;
         fits = omega arith;
         are = λ id. none-joined id ∙ sym (le-ltb id 0 (omega arith));
       }
@@ -80,18 +92,20 @@ module _ (vectors : ℕ) where
   first-more n h l =
       let free : isJoined (l .joined) n ≡ false = l .are n ∙ le-ltb n n (omega arith) in
       let at = lowest-next n l in
-      one-more vectors (λ id. ltb id n) (λ id. ltb id (suc n)) l joining (joinedWith (l .joined) n)
-      (ap (λ (o : Outcome). o .server) (joins-free (serverOf (l .joined) vectors) (rw at h)) ∙ rw at) (with-fits (l .joined) n h free (l .fits))
+      one-more vectors (λ id. ltb id n) (λ id. ltb id (suc n)) l (joining bufferBytes) (joinedWith (l .joined) n)
+      (with-room (serverOf (l .joined) vectors) range (rw at h) ∙ rw at)
+      (with-fits (l .joined) n h free (l .fits))
       (λ id.
       by-equal id n (λ same. rw same (with-same (l .joined) n h free ∙ sym (lt-ltb n (suc n) (omega arith))))
       (λ o. with-other (l .joined) n h free id o ∙ l .are id ∙ below-alike id n o))
     where
       below-alike : (id n : ℕ) → (id ≡ n → ⊥) → ltb id n ≡ ltb id (suc n)
       below-alike id n o =
-          by-less id n (λ l. lt-ltb id n l ∙ sym (lt-ltb id (suc n) (omega arith))) (λ l. le-ltb id n l ∙ sym (le-ltb id (suc n) (omega arith)))
+          by-less id n (λ l. lt-ltb id n l ∙ sym (lt-ltb id (suc n) (omega arith)))
+          (λ l. le-ltb id n l ∙ sym (le-ltb id (suc n) (omega arith)))
 
 -- below a number those of the state, and all from there on
-module _ (s : Server) where
+module _ (s : Server) (range : inRange (s .vectors) ≡ true) where
   abbrev wanted : ℕ → ℕ → Bool
   wanted k id = cond (ltb id k) (isJoined (s .joined) id) (ltb id ids)
 
@@ -117,17 +131,19 @@ module _ (s : Server) where
       (λ id.
       by-equal id k (λ same. rw same (wanted-here k h ∙ sym (wanted-next k ∙ e))) (λ o. wanted-other k id o)) l)
       (λ e.
-      one-more (s .vectors) (wanted k) (wanted (suc k)) l (leaving k) (joinedWithout (l .joined) k)
-      (ap (λ (o : Outcome). o .server) (leaves-joined (serverOf (l .joined) (s .vectors)) k there)) (omega (arith, l .fits))
+      one-more (s .vectors) (wanted k) (wanted (suc k)) l (leaving k bufferBytes) (joinedWithout (l .joined) k)
+      (left-with-room (serverOf (l .joined) (s .vectors)) range k there) (omega (arith, l .fits))
       (λ id.
       by-equal id k (λ same. rw same (without-same (l .joined) k there ∙ sym (wanted-next k ∙ e)))
       (λ o. without-other (l .joined) k there id o ∙ l .are id ∙ wanted-other k id o)))
 
 pub every-state-is-reached : EveryStateIsReached
-every-state-is-reached s range fits =
-    let first = climb (First (s .vectors)) ids (first-none (s .vectors)) (first-more (s .vectors)) ids (omega arith) in
-    let all = climb (Wanted s) ids (retold (λ id. ltb id ids) (wanted s 0) (λ id. rw (le-ltb id 0 (omega arith))) first) (wanted-more s) ids
-    (omega arith) in
+every-state-is-reached s e fits =
+    let range = in-range s bufferBytes e in
+    let v = s .vectors in
+    let first = climb (First v range) ids (first-none v range) (first-more v range) ids (omega arith) in
+    let none = retold (λ id. ltb id ids) (wanted s range 0) (λ id. rw (le-ltb id 0 (omega arith))) first in
+    let all = climb (Wanted s range) ids none (wanted-more s range) ids (omega arith) in
     let same : all .joined ≡ s .joined =
     same-bits (all .joined) (s .joined) (all .fits) fits
     (λ id.
@@ -136,22 +152,34 @@ every-state-is-reached s range fits =
     record { history = all .history; left = all .left ∙ rw same }
 
 -- a call keeps the number, and the bits within 64
-sound-one : (vectors : ℕ) (s : Server) (a : Act) → Sound vectors s → Sound vectors (outcome a s .server)
-sound-one vectors s joining k =
-    by-less (lowestFree (s .joined)) ids
+record Within (vectors : ℕ) (s : Server) : Type 0 where
+  same : s .vectors ≡ vectors
+  fits : s .joined < 2 ^ 64
+
+abbrev After : (vectors : ℕ) → Outcome → Type 0
+After vectors o = Within vectors (o .server)
+
+within-one : (vectors : ℕ) (s : Server) (a : Act) → Within vectors s → Within vectors (outcome a s .server)
+within-one vectors s (joining room) k =
+    by-join s room (After vectors) (λ _. k)
+    (by-less (lowestFree (s .joined)) ids
     (λ l.
     rw (joins-free s l)
     (record { same = k .same; fits = with-fits (s .joined) (lowestFree (s .joined)) l (lowest-is-free (s .joined) .free) (k .fits) }))
-    (λ l. rw (joins-full s l) k)
-sound-one vectors s (leaving id) k =
-    by-bool (isJoined (s .joined) id)
-    (λ e. rw (leaves-joined s id e) (record { same = k .same; fits = omega (arith, k .fits) }))
-    (λ e. rw (leaves-free s id e) k)
+    (λ l. rw (joins-full s l) k))
+within-one vectors s (leaving id room) k =
+    by-leave s room (After vectors) (λ _. k) id
+    (by-bool (isJoined (s .joined) id) (λ e. rw (leaves-joined s id e) (record { same = k .same; fits = omega (arith, k .fits) }))
+    (λ e. rw (leaves-free s id e) k))
 
-sound-all : (vectors : ℕ) (history : List Act) (s : Server) → Sound vectors s → Sound vectors (after s history)
+within-all : (vectors : ℕ) (history : List Act) (s : Server) → Within vectors s → Within vectors (after s history)
 unfolding after
-sound-all vectors [] s k = k
-sound-all vectors (a ∷ later) s k = sound-all vectors later (outcome a s .server) (sound-one vectors s a k)
+within-all vectors [] s k = k
+within-all vectors (a ∷ later) s k = within-all vectors later (outcome a s .server) (within-one vectors s a k)
 
 pub reached-is-sound : ReachedIsSound
-reached-is-sound vectors history = sound-all vectors history (serverOf 0 vectors) (record { same = refl; fits = omega arith })
+reached-is-sound vectors history range =
+    let k = within-all vectors history (started vectors .server)
+    (rw (started-in vectors range) (record { same = refl; fits = omega arith })) in
+    let s = after (started vectors .server) history in
+    record { accepted = not-refused s (rw (k .same) range); same = k .same; fits = k .fits }

@@ -1,34 +1,33 @@
 -- A record's bytes are read back, and which records are for one client.
-use Prim.Native.Nat.{ℕ, zero, suc, _+_, _-_, _*_, _/_, _%_, _<_, _≤_, _^_}
-use mathlib.Core.Bool.{Bool, true, false, cond, _&&_}
+use Prim.Native.Nat.{ℕ, zero, suc, _+_, _-_, _*_, _/_, _<_, _≤_, _^_}
+use mathlib.Core.Bool.{true, false}
 use mathlib.Core.List.{List, [], _∷_, _++_, append-nil}
-use mathlib.Core.Path.{_≡_, refl, sym, ap, _∙_}
+use mathlib.Core.Path.{_≡_, refl, _∙_}
 use native.Mathlib.Nat.{pow-suc}
 use native.Mathlib.Omega.{arith}
-use lib.Dec.{eqb, ltb}
+use lib.Dec.{eqb}
 use lib.IntN.{ℤ, pos, negsuc}
-use lib.ListN.{length, take, drop}
 use lib.Seq.{take-all}
 use borrow.Author.Tests.{eq-eqb, ne-eqb, lt-ltb, le-ltb}
 use Rattle.common.proofs.ByteLaws.{length-bytes}
 use Rattle.common.proofs.TestLaws.{by-equal}
 use Rattle.common.specs.Bytes.{bytes, number}
 use Rattle.reader.proofs.ReadLaws.{by-bool, by-less}
-use Rattle.reader.specs.Records.{Record, recordOf, recordIn, signed}
+use Rattle.reader.specs.Records.{Record, recordIn, signed}
 use Rattle.reader.specs.Sizes.{ids}
 use Rattle.server.proofs.FreeLaws.{at-joined, at-free, by-joined}
 use Rattle.server.proofs.JoinedLaws.{joined-below}
 use Rattle.server.proofs.ListLaws.{each-append, each-one}
 use Rattle.server.specs.Clients.{isJoined, joinedAt, joinedBelow, clients}
 use Rattle.server.specs.Histories.{recordsFor}
-use Rattle.server.specs.Messages.{Sent, to, allTo, eachOf, unsigned, bytesOf, Signed, RecordsComeBack}
+use Rattle.server.specs.Messages.{Sent, to, allTo, eachOf, unsigned, bytesOf, In64Bits, RecordsComeBack}
 
 number-bytes : (n x : ℕ) → x < 256 ^ n → number (bytes n x) ≡ x
 unfolding bytes number
 number-bytes zero x h = omega arith
 number-bytes (suc n) x h = let p : 256 ^ suc n ≡ 256 ^ n * 256 = pow-suc 256 n in rw (number-bytes n (x / 256) (omega arith)) (omega arith)
 
-signed-back : (z : ℤ) → Signed z → (unsigned z < 2 ^ 64) × (signed (unsigned z) ≡ z)
+signed-back : (z : ℤ) → In64Bits z → (unsigned z < 2 ^ 64) × (signed (unsigned z) ≡ z)
 unfolding signed unsigned
 signed-back (pos n) h = (omega arith, rw (lt-ltb n (2 ^ 63) h))
 signed-back (negsuc n) h =
@@ -39,7 +38,8 @@ pub records-come-back : RecordsComeBack
 unfolding recordIn bytesOf
 records-come-back r h =
     let b = signed-back (r .value) h in
-    rw (take-all 8 (bytes 8 (unsigned (r .value))) (omega (arith, length-bytes 8 (unsigned (r .value)))), number-bytes 8 (unsigned (r .value)) (b .0), b .1)
+    let x = unsigned (r .value) in
+    rw (take-all 8 (bytes 8 x) (omega (arith, length-bytes 8 x)), number-bytes 8 x (b .0), b .1)
 
 -- for one client, part after part
 module _ (client : ℕ) where

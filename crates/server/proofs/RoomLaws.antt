@@ -2,7 +2,7 @@
 use Prim.Native.Nat.{ℕ, zero, suc, _+_, _-_, _*_, _≤_, _<_}
 use mathlib.Core.Bool.{true, false}
 use mathlib.Core.List.{List, [], _++_}
-use mathlib.Core.Path.{_≡_, refl, sym, ap, _∙_}
+use mathlib.Core.Path.{_≡_, refl, ap, _∙_}
 use native.Mathlib.Nat.{mul-le-mul, mul-assoc}
 use native.Mathlib.Numerals.{add-one}
 use native.Mathlib.Omega.{arith}
@@ -46,7 +46,8 @@ module _ (joined id vectors : ℕ) (h : id < ids) (free : isJoined joined id ≡
   pub join-room : length (joinBytes joined id vectors) ≤ bufferBytes
   unfolding bufferBytes mostSent
   join-room =
-      let most : vectors * length (clients joined) ≤ mostVectors * (ids - 1) = mul-le-mul (vectors-few vectors range) (clients-fewer joined id h free) in
+      let most : vectors * length (clients joined) ≤ mostVectors * (ids - 1) =
+      mul-le-mul (vectors-few vectors range) (clients-fewer joined id h free) in
       rw (
         join-length joined id vectors,
         notices-length (noticeOf 1 id vectors true) (clients joined),
@@ -81,11 +82,13 @@ module _ (n : Notice) (joined : ℕ) where
       (λ o.
       let more : length (noticesBytes n (joinedBelow (suc m) joined))
       ≡ length (noticesBytes n (joinedBelow m joined)) + length (noticesBytes n (joinedAt joined m)) =
-      rw (← add-one m) (ap length (notices-next m) ∙ length-append (noticesBytes n (joinedBelow m joined)) (noticesBytes n (joinedAt joined m))) in
+      rw (← add-one m)
+      (ap length (notices-next m) ∙ length-append (noticesBytes n (joinedBelow m joined)) (noticesBytes n (joinedAt joined m))) in
       omega (arith, within k m (omega arith)))
 
   pub notices-room : (k : ℕ) → k < ids
-      → length (noticesBytes n (joinedBelow k joined)) + length (noticesBytes n (joinedAt joined k)) ≤ length (noticesBytes n (clients joined))
+      → length (noticesBytes n (joinedBelow k joined)) + length (noticesBytes n (joinedAt joined k))
+      ≤ length (noticesBytes n (clients joined))
   notices-room k l =
       rw (length-append (noticesBytes n (joinedBelow k joined)) (noticesBytes n (joinedAt joined k))) at
       (rw (notices-next k) at (within (k + 1) ids (omega arith)))

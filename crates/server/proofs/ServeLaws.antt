@@ -1,24 +1,39 @@
 -- The calls by their cases, and what an accepted or a refused one leaves.
 use Prim.Native.Nat.{ℕ, _*_, _≤_, _<_}
-use mathlib.Core.Bool.{true, false, not}
+use mathlib.Core.Bool.{true, false, not, true≢false}
 use mathlib.Core.List.{List, [], _∷_}
 use mathlib.Core.Path.{_≡_, refl, sym, ap, _∙_}
 use native.Mathlib.Omega.{arith}
 use lib.Dec.{ltb}
 use lib.ListN.{length}
 use lib.Seq.{sets}
-use borrow.Author.Tests.{eq-eqb, ne-eqb, lt-ltb, le-ltb, ltb-false, not-false}
-use Rattle.common.proofs.TestLaws.{first-zero}
+use borrow.Author.Tests.{eq-eqb, ne-eqb, lt-ltb, le-ltb, ltb-false, le-leb, not-false}
+use Rattle.common.proofs.TestLaws.{first-zero, by-equal}
 use Rattle.common.specs.Lists.{over}
-use Rattle.common.specs.Tests.{row}
-use Rattle.reader.specs.Sizes.{ids}
-use Rattle.server.specs.declared.Served.{Served}
+use Rattle.common.specs.Tests.{row, first}
+use Rattle.reader.proofs.ReadLaws.{by-bool, by-less}
+use Rattle.reader.specs.Sizes.{ids, mostVectors}
 use Rattle.server.specs.declared.Server.{Server}
+use Rattle.server.proofs.FreeLaws.{lowest-is-free}
 use Rattle.server.proofs.MessageLaws.{all-length}
 use Rattle.server.proofs.SetsLaws.{sets-over}
 use Rattle.server.specs.Clients.{isJoined, lowestFree}
 use Rattle.server.specs.Messages.{Sent, eachOf, allBytes, bufferBytes}
-use Rattle.server.specs.Serving.{inRange, done, refusedBy, joinAs, joins, leaveAs, leaves, refusal, join, leave, answerOf, Serves}
+use Rattle.server.specs.Serving.{Outcome, serverOf, inRange, started, done, refusedBy, joinAs, joins, JoinsTakeTheLowest, leaveAs, leaves, refusal, join, leave, answerOf, Serves}
+
+-- a start: nobody is joined, and the number of vectors is the one that it was handed, if that is in its range
+pub nobody : (vectors : ℕ) → started vectors .server .joined ≡ 0
+unfolding started
+nobody vectors = by-bool (inRange vectors) (λ e. rw e) (λ e. rw e)
+
+pub started-in : (vectors : ℕ) → inRange vectors ≡ true → started vectors .server ≡ serverOf 0 vectors
+unfolding started
+started-in vectors e = rw e
+
+pub started-vectors : (vectors : ℕ) → 1 ≤ vectors → vectors ≤ mostVectors → started vectors .server .vectors ≡ vectors
+unfolding inRange
+started-vectors vectors some most =
+    ap (λ (s : Server). s .vectors) (started-in vectors (rw (le-leb 1 vectors some, le-leb vectors mostVectors most)))
 
 -- so many messages, whose bytes were stored from the front
 pub serves-done : (id : ℕ) (sent : List Sent) (s : Server) (bytes before after : List ℕ) (n : ℕ) → allBytes sent ≡ bytes
@@ -79,3 +94,34 @@ module _ (s : Server) where
   pub leaves-free : (id : ℕ) → isJoined (s .joined) id ≡ false → leaves s id ≡ refusedBy 4 s
   unfolding leaves
   leaves-free id e = rw e
+
+pub joins-take-the-lowest : JoinsTakeTheLowest
+joins-take-the-lowest s =
+    let lowest = lowest-is-free (s .joined) in
+    by-less (lowestFree (s .joined)) ids
+    (λ l.
+    rw (joins-free s l)
+    (record {
+      taken = λ _. (l, lowest);
+      full = λ e. absurd (omega arith);
+      only = λ all. absurd (true≢false (sym (all (lowestFree (s .joined)) l) ∙ lowest .free));
+    }))
+    (λ l.
+    rw (joins-full s l)
+    (record { taken = λ e. absurd (omega arith); full = λ _ id h. lowest .before id (omega arith); only = λ _. refl }))
+
+-- what holds of a refused call and of one that goes on holds of a call
+module _ (s : Server) (room : ℕ) (P : Outcome → Type 0) (refused : (number : ℕ) → P (refusedBy number s)) where
+  pub by-join : P (joins s) → P (join s room)
+  by-join goes =
+      by-equal (refusal s room) 0 (λ e. rw (join-goes-on s room e) goes) (λ n. rw (join-refused s room n) (refused (refusal s room)))
+
+  pub by-leave : (id : ℕ) → P (leaves s id) → P (leave s id room)
+  by-leave id goes =
+      by-equal (refusal s room) 0 (λ e. rw (leave-goes-on s room id e) goes)
+      (λ n. rw (leave-refused s room id n) (refused (refusal s room)))
+
+-- a number in its range, and room
+pub not-refused : (s : Server) → inRange (s .vectors) ≡ true → refusal s bufferBytes ≡ 0
+unfolding refusal first
+not-refused s e = rw (e, le-ltb bufferBytes bufferBytes (omega arith))

@@ -1,12 +1,12 @@
 -- What a reader makes of records from the start, one after the other.
-use Prim.Native.Nat.{ℕ, zero, suc, _+_, _≤_, _<_, _^_}
-use mathlib.Core.Bool.{Bool, true, false, cond, not, _&&_}
+use Prim.Native.Nat.{ℕ, zero, suc, _+_, _≤_, _<_}
+use mathlib.Core.Bool.{Bool, true, false, cond, _&&_}
 use mathlib.Core.List.{List, [], _∷_, _++_, append-assoc, append-nil}
 use mathlib.Core.Path.{_≡_, refl, sym, ap, _∙_}
 use native.Mathlib.Numerals.{add-one}
 use native.Mathlib.Omega.{arith}
 use lib.Dec.{ltb}
-use lib.ListN.{length, getD, set, replicate, length-append, length-replicate}
+use lib.ListN.{length, getD, set, replicate, length-append}
 use lib.Seq.{getD-set-same, set-set, set-getD}
 use borrow.Author.Tests.{lt-ltb, le-ltb, ne-eqb}
 use Rattle.common.proofs.ByteLaws.{length-bytes}
@@ -14,7 +14,7 @@ use Rattle.common.proofs.ListLaws.{length-tabulate, getD-tabulate, tabulate-ext
 use Rattle.common.proofs.StreamLaws.{fed-append}
 use Rattle.common.proofs.TestLaws.{and-left, and-right, and-false, by-equal}
 use Rattle.common.specs.Lists.{tabulate}
-use Rattle.common.specs.Streams.{FedOf, fedTo, fedAll}
+use Rattle.common.specs.Streams.{fedTo, fedAll}
 use Rattle.reader.proofs.Cutting.{byBytes, stays, records-are-answered}
 use Rattle.reader.proofs.Reached.{climb}
 use Rattle.reader.proofs.ReadLaws.{by-bool, by-less}
@@ -22,17 +22,18 @@ use Rattle.reader.proofs.SizeLaws.{ids-byte}
 use Rattle.reader.specs.declared.Message.{Message}
 use Rattle.reader.specs.declared.Message.the-variants.{Version, Id, Memory, Vector, Disconnected}
 use Rattle.reader.specs.Cutting.{oneByte}
-use Rattle.reader.specs.Reading.{State, start, emptied, refusal}
-use Rattle.reader.specs.Records.{Record, recordOf, recordIn}
+use Rattle.reader.specs.Reading.{start, emptied, refusal}
+use Rattle.reader.specs.Records.{Record, recordIn}
 use Rattle.reader.specs.Sizes.{ids}
-use Rattle.reader.specs.Steps.{Known, known, result, Result, isVersion, isId, idOf, isMemory, versionStep, idStep, memoryStep, adds, removes, peersStep, readRecord}
-use Rattle.server.proofs.FreeLaws.{at-joined, at-free, below-next, by-joined}
+use Rattle.reader.specs.Steps.{Known, known, result, Result, isVersion, isId, idOf, isMemory, versionStep, idStep, memoryStep, adds}
+use Rattle.reader.specs.Steps.{removes, peersStep, readRecord}
+use Rattle.server.proofs.FreeLaws.{at-joined, at-free, below-next}
 use Rattle.server.proofs.JoinedLaws.{joined-below, joined-beyond, with-same, with-other, without-same, without-other}
 use Rattle.server.proofs.ListLaws.{each-append, each-one}
 use Rattle.server.proofs.RecordLaws.{records-come-back}
 use Rattle.server.specs.Clients.{isJoined, joinedWith, joinedWithout, joinedAt, joinedBelow, clients}
 use Rattle.server.specs.Histories.{stream, isPlain, allPlain, countsOf}
-use Rattle.server.specs.Messages.{eachOf, bytesOf, Signed, version, ownId, memory, vectorOf, vectorsOf, leftBy, toJoiner}
+use Rattle.server.specs.Messages.{eachOf, bytesOf, In64Bits, version, ownId, memory, vectorOf, vectorsOf, hasLeft, toJoiner}
 
 -- a record has nine bytes
 nine : (r : Record) → length (bytesOf r) ≡ 9
@@ -65,7 +66,7 @@ module _ (vectors : ℕ) (good : refusal vectors start ≡ 0) where
   told-none = record { messages = []; one = refl; plain = refl; there = refl }
 
   -- one record more, with its message
-  told-more : (rs : List Record) (k : Known) (r : Record) (h : Result) → Signed (r .value) → readRecord vectors k r ≡ h
+  told-more : (rs : List Record) (k : Known) (r : Record) (h : Result) → In64Bits (r .value) → readRecord vectors k r ≡ h
       → isPlain (h .message) ≡ true → Told vectors rs k → Told vectors (rs ++ r ∷ []) (h .known)
   told-more rs k r h v e p t =
       let kept : refusal vectors (emptied k) ≡ 0 = rw (t .there) at (stays vectors (stream rs) start refl good .1) in
@@ -86,7 +87,8 @@ module _ (vectors : ℕ) (good : refusal vectors start ≡ 0) where
   told-start own h =
       let none : List ℕ = replicate ids 0 in
       told-more (version ∷ ownId own ∷ []) (known 2 own none) memory (result Memory (known 3 own none)) (omega arith) refl refl
-      (told-more (version ∷ []) (known 1 0 none) (ownId own) (result (Id own) (known 2 own none)) (omega (arith, ids-byte)) (rw (lt-ltb own ids h)) refl
+      (told-more (version ∷ []) (known 1 0 none) (ownId own) (result (Id own) (known 2 own none)) (omega (arith, ids-byte))
+      (rw (lt-ltb own ids h)) refl
       (told-more [] (known 0 0 none) version (result Version (known 1 0 none)) (omega arith) refl refl told-none))
 
   -- a vector of an id that has not all of them
@@ -95,7 +97,8 @@ module _ (vectors : ℕ) (good : refusal vectors start ≡ 0) where
         → Told vectors (rs ++ vectorOf id ∷ []) (known 3 own (set counts id (getD counts id 0 + 1)))
     unfolding readRecord peersStep isId idOf adds isPlain
     told-vector rs counts m t =
-        told-more rs (known 3 own counts) (vectorOf id) (result (Vector id (getD counts id 0 + 1)) (known 3 own (set counts id (getD counts id 0 + 1))))
+        told-more rs (known 3 own counts) (vectorOf id)
+        (result (Vector id (getD counts id 0 + 1)) (known 3 own (set counts id (getD counts id 0 + 1))))
         (omega (arith, ids-byte)) (rw (lt-ltb id ids h, lt-ltb (getD counts id 0) vectors m)) refl t
 
     -- as many as may be, where it has none
@@ -114,10 +117,10 @@ module _ (vectors : ℕ) (good : refusal vectors start ≡ 0) where
 
     -- another peer that has vectors leaves
     pub told-left : (rs : List Record) (counts : List ℕ) → (id ≡ own → ⊥) → 0 < getD counts id 0 → Told vectors rs (known 3 own counts)
-        → Told vectors (rs ++ leftBy id ∷ []) (known 3 own (set counts id 0))
+        → Told vectors (rs ++ hasLeft id ∷ []) (known 3 own (set counts id 0))
     unfolding readRecord peersStep isId idOf removes isPlain
     told-left rs counts o m t =
-        told-more rs (known 3 own counts) (leftBy id) (result (Disconnected id) (known 3 own (set counts id 0))) (omega (arith, ids-byte))
+        told-more rs (known 3 own counts) (hasLeft id) (result (Disconnected id) (known 3 own (set counts id 0))) (omega (arith, ids-byte))
         (rw (lt-ltb id ids h, ne-eqb id own o, lt-ltb 0 (getD counts id 0) m)) refl t
 
 -- the counts of those ids for which a test holds
@@ -174,10 +177,13 @@ module _ (vectors : ℕ) (good : refusal vectors start ≡ 0) (joined own : ℕ)
   up-next n e = rw (lt-ltb n (suc n) (omega arith), e)
 
   up-other : (n j : ℕ) → (j ≡ n → ⊥) → upTo (suc n) j ≡ upTo n j
-  up-other n j o = by-less j n (λ l. rw (lt-ltb j n l, lt-ltb j (suc n) (omega arith))) (λ l. rw (le-ltb j n l, le-ltb j (suc n) (omega arith)))
+  up-other n j o =
+      by-less j n (λ l. rw (lt-ltb j n l, lt-ltb j (suc n) (omega arith))) (λ l. rw (le-ltb j n l, le-ltb j (suc n) (omega arith)))
 
   up-free : (n : ℕ) → isJoined joined n ≡ false → (j : ℕ) → upTo (suc n) j ≡ upTo n j
-  up-free n e j = by-equal j n (λ same. rw (same, e) (and-false (ltb n (suc n)) false refl ∙ sym (and-false (ltb n n) false refl))) (λ o. up-other n j o)
+  up-free n e j =
+      by-equal j n (λ same. rw (same, e) (and-false (ltb n (suc n)) false refl ∙ sym (and-false (ltb n n) false refl)))
+      (λ o. up-other n j o)
 
   front-next : (n : ℕ) → isJoined joined n ≡ true → front (suc n) ≡ front n ++ vectorsOf vectors n
   front-next n e =
@@ -227,7 +233,7 @@ module _ (vectors : ℕ) (good : refusal vectors start ≡ 0) (joined own id : �
       (by-free vectors (isJoined joined) id h free) t)
 
   pub told-leave : (e : isJoined joined id ≡ true) → (id ≡ own → ⊥) → 1 ≤ vectors
-      → Told vectors (rs ++ leftBy id ∷ []) (known 3 own (countsOf vectors (joinedWithout joined id)))
+      → Told vectors (rs ++ hasLeft id ∷ []) (known 3 own (countsOf vectors (joinedWithout joined id)))
   unfolding countsOf
   told-leave e o some =
       let h = joined-below joined id e in

@@ -17,23 +17,25 @@ use Rattle.reader.specs.Steps.{known, peersDue}
 use Rattle.server.specs.declared.Server.{Server}
 use Rattle.server.specs.Clients.{isJoined, clients}
 use Rattle.server.specs.Messages.{Sent, eachOf, bytesOf, toJoiner}
-use Rattle.server.specs.Serving.{Outcome, serverOf, joins, leaves}
+use Rattle.server.specs.Serving.{Outcome, started, join, leave}
 
--- what happens: a client joins, or the client with this id leaves. In a history there may be refused ones, which change nothing.
+-- the calls of a history, with the room of the buffer that is lent: a client joins, or the client with this id leaves. There may be
+-- refused ones among them.
 pub data Act : Type 0 where
-  joining : Act
-  leaving : ℕ → Act
+  joining : (room : ℕ) → Act
+  leaving : (id room : ℕ) → Act
 
 abbrev pub outcome : Act → Server → Outcome
-outcome joining s = joins s
-outcome (leaving id) s = leaves s id
+outcome (joining room) s = join s room
+outcome (leaving id room) s = leave s id room
 
--- the records for one client
+-- the records for one client, in their order
 unfoldable pub recordsFor : (client : ℕ) → List Sent → List Record
 recordsFor client [] = []
 recordsFor client (m ∷ ms) = cond (eqb (m .client) client) (m .said ∷ recordsFor client ms) (recordsFor client ms)
 
--- what there is of one client: the server's state, the records for the client since it joined last, and who was joined when it last was
+-- What has become of one client: the server's state, the records for the client since it joined last, and the ids that were joined
+-- after the last call that left the client joined.
 pub record Seen : Type 0 where
   pub server : Server
   pub heard : List Record
@@ -57,20 +59,20 @@ seenFrom client v (a ∷ later) = seenFrom client (next client v (outcome a (v .
 
 -- a history from the start
 abbrev pub seen : (vectors client : ℕ) → List Act → Seen
-seen vectors client history = seenFrom client (record { server = serverOf 0 vectors; heard = []; peers = 0 }) history
+seen vectors client history = seenFrom client (record { server = started vectors .server; heard = []; peers = 0 }) history
 
 -- the bytes of records, as a reader takes them
 unfoldable pub stream : List Record → List ℕ
 stream records = eachOf bytesOf records
 
--- A reader that knows its own id and exactly these peers, each with all its vectors, and holds nothing.
+-- a reader that knows its own id and exactly these peers, each with all its vectors, and holds nothing
 unfoldable pub countsOf : (vectors peers : ℕ) → List ℕ
 countsOf vectors peers = tabulate ids (λ id. cond (isJoined peers id) vectors 0)
 
 abbrev pub knows : (vectors client peers : ℕ) → State
 knows vectors client peers = emptied (known peersDue client (countsOf vectors peers))
 
--- the message of a record in its place: not extra, not closed, and not that more is wanted
+-- a message that accepts its record: not extra, not closed, and not that more is wanted
 unfoldable pub isPlain : Message → Bool
 isPlain More = false
 isPlain Version = true
@@ -86,7 +88,7 @@ allPlain [] = true
 allPlain (m ∷ ms) = isPlain m && allPlain ms
 
 -- A fresh reader with as many vectors is handed the records, cut in any way: it answers each with one message, none of them extra or
--- closed, and then knows who was joined when the client last was. Accepted calls take all of the bytes.
+-- closed, and then knows these peers. Accepted calls take all of the bytes.
 pub record Follows (vectors client : ℕ) (v : Seen) : Type 0 where
   pub messages : List Message
   pub one : length messages ≡ length (v .heard)
@@ -95,30 +97,35 @@ pub record Follows (vectors client : ℕ) (v : Seen) : Type 0 where
       → readPieces vectors start pieces ≡ fedTo (knows vectors client (v .peers)) messages
   pub calls : Calls vectors start (stream (v .heard)) messages (knows vectors client (v .peers))
 
--- R104: so it is after every history, for each client that has joined at some time:
+-- R104: so it is of each client that was joined at some time, whatever comes later:
 abbrev pub ReadersFollow : Type 0
 ReadersFollow =
-    (vectors client : ℕ) (history : List Act) → 1 ≤ vectors → vectors ≤ mostVectors
-    → isJoined (seen vectors client history .peers) client ≡ true → Follows vectors client (seen vectors client history)
+    (vectors client : ℕ) (before later : List Act) → 1 ≤ vectors → vectors ≤ mostVectors
+    → isThere client (seen vectors client before .server) ≡ true → Follows vectors client (seen vectors client (before ++ later))
 
--- while it is joined, who was joined when it last was is who is joined now,
+-- while it is joined its peers are the ids that are joined now,
 abbrev pub PeersAreNow : Type 0
 PeersAreNow =
     (vectors client : ℕ) (history : List Act) → isThere client (seen vectors client history .server) ≡ true
     → seen vectors client history .peers ≡ seen vectors client history .server .joined
 
--- and before it joins for the first time it has heard nothing.
-abbrev pub StrangersHearNothing : Type 0
-StrangersHearNothing =
-    (vectors client : ℕ) (history : List Act) → isJoined (seen vectors client history .peers) client ≡ false
-    → seen vectors client history .heard ≡ []
+-- and a call after which it is not joined, that by which it leaves and every later one, leaves its peers and its records as they were.
+pub record Keeps (before after : Seen) : Type 0 where
+  pub heard : after .heard ≡ before .heard
+  pub peers : after .peers ≡ before .peers
 
--- R105: a call after which a client is not joined has no record for it: neither the call by which it leaves nor any later one.
+abbrev pub LeaversKeep : Type 0
+LeaversKeep =
+    (client : ℕ) (v : Seen) (a : Act) → isThere client (outcome a (v .server) .server) ≡ false
+    → Keeps v (next client v (outcome a (v .server)))
+
+-- R105: such a call has no record for the client at all.
 abbrev pub LeaversHearNothing : Type 0
 LeaversHearNothing =
     (client : ℕ) (s : Server) (a : Act) → isThere client (outcome a s .server) ≡ false → recordsFor client (outcome a s .sent) ≡ []
 
--- R106: a client that joins, with a freed id or with another, is told what every joiner is told, by who is joined alone.
+-- R106: a client that joins, with a freed id or with another, is told what every joiner is told, by the number of vectors and by who
+-- is joined alone.
 abbrev pub JoinersStartAfresh : Type 0
 JoinersStartAfresh =
     (client : ℕ) (s : Server) (a : Act) → isThere client s ≡ false → isThere client (outcome a s .server) ≡ true

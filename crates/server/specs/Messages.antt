@@ -3,7 +3,7 @@ use Prim.Native.Nat.{ℕ, _+_, _-_, _*_, _<_, _^_}
 use mathlib.Core.List.{List, [], _∷_, _++_, map}
 use mathlib.Core.Path.{_≡_}
 use lib.IntN.{ℤ, pos, negsuc}
-use lib.ListN.{replicate}
+use lib.ListN.{length, take, drop, getD, replicate}
 use Rattle.common.specs.Bytes.{bytes}
 use Rattle.reader.specs.Records.{Record, recordOf, recordIn}
 use Rattle.reader.specs.Sizes.{ids, mostVectors}
@@ -24,7 +24,7 @@ unfoldable pub eachOf : {A B : Type 0} → (A → List B) → List A → List B
 eachOf f [] = []
 eachOf f (x ∷ xs) = f x ++ eachOf f xs
 
--- what is said: the version, an id, and the end of a peer without a descriptor; the memory, and a vector with one
+-- What is said without a descriptor: the version, the client's own id, the id of one that has left. With one: the memory, a vector.
 abbrev pub version : Record
 version = recordOf 0 (pos 0)
 
@@ -37,8 +37,8 @@ memory = recordOf 1 (negsuc 0)
 abbrev pub vectorOf : ℕ → Record
 vectorOf id = recordOf 1 (pos id)
 
-abbrev pub leftBy : ℕ → Record
-leftBy id = recordOf 0 (pos id)
+abbrev pub hasLeft : ℕ → Record
+hasLeft id = recordOf 0 (pos id)
 
 -- as many as there are vectors
 abbrev pub vectorsOf : (vectors id : ℕ) → List Record
@@ -57,7 +57,7 @@ joinMessages vectors others id = allTo id (toJoiner vectors others id) ++ toOthe
 
 -- R100: each client that stays is told who left
 unfoldable pub leaveMessages : (others : List ℕ) (id : ℕ) → List Sent
-leaveMessages others id = eachOf (λ other. to other (leftBy id) ∷ []) others
+leaveMessages others id = eachOf (λ other. to other (hasLeft id) ∷ []) others
 
 -- R101: the 64 bits of a number in two's complement, a record's nine bytes, and a message's ten
 unfoldable pub unsigned : ℤ → ℕ
@@ -68,18 +68,23 @@ unfoldable pub bytesOf : Record → List ℕ
 bytesOf r = r .kind ∷ bytes 8 (unsigned (r .value))
 
 -- C-17 reads it back, where its number is one of 64 bits.
-abbrev pub Signed : ℤ → Type 0
-Signed (pos n) = n < 2 ^ 63
-Signed (negsuc n) = n < 2 ^ 63
+abbrev pub In64Bits : ℤ → Type 0
+In64Bits (pos n) = n < 2 ^ 63
+In64Bits (negsuc n) = n < 2 ^ 63
 
 abbrev pub RecordsComeBack : Type 0
-RecordsComeBack = (r : Record) → Signed (r .value) → recordIn (bytesOf r) ≡ r
+RecordsComeBack = (r : Record) → In64Bits (r .value) → recordIn (bytesOf r) ≡ r
 
 unfoldable pub sentBytes : Sent → List ℕ
 sentBytes m = m .client ∷ bytesOf (m .said)
 
 unfoldable pub allBytes : List Sent → List ℕ
 allBytes sent = eachOf sentBytes sent
+
+-- Each message stands in its ten bytes.
+abbrev pub MessagesStandInTens : Type 0
+MessagesStandInTens =
+    (sent : List Sent) (k : ℕ) (m : Sent) → k < length sent → take 10 (drop (10 * k) (allBytes sent)) ≡ sentBytes (getD sent k m)
 
 -- R101: the buffer has room for the largest join: the first three, the vectors of all other ids, the joiner's own, and these again for
 -- each other id

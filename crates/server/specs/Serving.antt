@@ -1,6 +1,6 @@
 -- C-18: the calls, and when they are refused (R97, R102, R103).
-use Prim.Native.Nat.{ℕ}
-use mathlib.Core.Bool.{Bool, cond, not, _&&_}
+use Prim.Native.Nat.{ℕ, _<_}
+use mathlib.Core.Bool.{Bool, true, cond, not, _&&_}
 use mathlib.Core.List.{List, [], _∷_}
 use mathlib.Core.Path.{_≡_}
 use lib.Dec.{eqb, leb, ltb}
@@ -11,7 +11,7 @@ use Rattle.reader.specs.Sizes.{ids, mostVectors}
 use Rattle.server.specs.declared.Served.{Served}
 use Rattle.server.specs.declared.Server.{Server}
 use Rattle.server.specs.declared.Started.{Started}
-use Rattle.server.specs.Clients.{isJoined, joinedWith, joinedWithout, clients, lowestFree}
+use Rattle.server.specs.Clients.{isJoined, joinedWith, joinedWithout, clients, lowestFree, Lowest}
 use Rattle.server.specs.Messages.{Sent, joinMessages, leaveMessages, allBytes, bufferBytes}
 
 -- R97: the state is the joined ids and the number of vectors
@@ -25,8 +25,8 @@ abbrev pub begun : ℕ → Server → Started
 begun number s = record { number = number; server = s }
 
 -- R97: nobody is joined; 1 for a number of vectors outside 1 to 16, with a state that every call refuses
-unfoldable pub start : (vectors : ℕ) → Started
-start vectors = cond (inRange vectors) (begun 0 (serverOf 0 vectors)) (begun 1 (serverOf 0 0))
+unfoldable pub started : (vectors : ℕ) → Started
+started vectors = cond (inRange vectors) (begun 0 (serverOf 0 vectors)) (begun 1 (serverOf 0 0))
 
 -- what a call comes to: 0 or a refusal's number, the id, the messages, and the state
 pub record Outcome : Type 0 where
@@ -49,6 +49,15 @@ joinAs s id = done id (joinMessages (s .vectors) (clients (s .joined)) id) (serv
 unfoldable pub joins : Server → Outcome
 joins s = cond (ltb (lowestFree (s .joined)) ids) (joinAs s (lowestFree (s .joined))) (refusedBy 12 s)
 
+-- A join that is accepted takes the lowest free id, and 12 is given exactly where all ids are joined.
+pub record TakesLowest (s : Server) (o : Outcome) : Type 0 where
+  pub taken : o .number ≡ 0 → (o .id < ids) × Lowest (s .joined) (o .id)
+  pub full : o .number ≡ 12 → (id : ℕ) → id < ids → isJoined (s .joined) id ≡ true
+  pub only : ((id : ℕ) → id < ids → isJoined (s .joined) id ≡ true) → o .number ≡ 12
+
+abbrev pub JoinsTakeTheLowest : Type 0
+JoinsTakeTheLowest = (s : Server) → TakesLowest s (joins s)
+
 -- R100: a leave frees an id; 4 where it is not joined
 abbrev pub leaveAs : Server → ℕ → Outcome
 leaveAs s id =
@@ -57,7 +66,8 @@ leaveAs s id =
 unfoldable pub leaves : Server → (id : ℕ) → Outcome
 leaves s id = cond (isJoined (s .joined) id) (leaveAs s id) (refusedBy 4 s)
 
--- R102: before all else, 10 for a state that no history leaves, then 11 for a buffer that is too small for the largest join
+-- R102: before all else, 10 for a number of vectors outside 1 to 16 (specs/Reached: every other state is left by some history), then 11
+-- for a buffer that is too small for the largest join
 unfoldable pub refusal : Server → (room : ℕ) → ℕ
 refusal s room = first (row 10 (not (inRange (s .vectors))) ∷ row 11 (ltb room bufferBytes) ∷ [])
 

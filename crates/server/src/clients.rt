@@ -1,6 +1,6 @@
 // The ids that are joined, as bits of one number.
 ghost use mathlib.Core.Path.{_≡_};
-ghost use Prim.Native.Nat.{_+_, _<_, _^_};
+ghost use Prim.Native.Nat.{_+_, _<_};
 ghost use mathlib.Core.Bool.{true, false};
 ghost use Rattle.reader.specs.Sizes.{ids};
 ghost use Rattle.server.specs.Clients.{isJoined, lowestFree, joinedWith, joinedWithout};

@@ -15,7 +15,7 @@ ghost use Rattle.reader.specs.Sizes.{ids};
 ghost use Rattle.server.specs.Clients.{isJoined};
 ghost use Rattle.server.specs.Messages.{bufferBytes};
 ghost use Rattle.server.specs.Parts.{startBytes, joinBytes};
-ghost use Rattle.server.specs.Serving.{inRange, start, refusal, refusedBy, answerOf, joinAs, leaveAs, join, leave, Serves};
+ghost use Rattle.server.specs.Serving.{inRange, started, refusal, refusedBy, answerOf, joinAs, leaveAs, join, leave, Serves};
 
 // The room that every call wants: that of the largest join.
 pub const BUFFER_BYTES: usize = 20350;
@@ -50,7 +50,7 @@ fn in_range(vectors: u64) -> bool
 
 // A server that nobody has joined.
 pub fn start(vectors: u64) -> Started
-    ensures { λ r. ⌜ r ≡ start vectors ⌝ }
+    ensures { λ r. ⌜ r ≡ started vectors ⌝ }
 {
     if in_range(vectors) {
         return Started {
@@ -180,7 +180,7 @@ fn leave_as(server: Server, id: u64, out: &mut [u8]) -> Served
         times: 1,
         single: false,
     };
-    let messages = notices::put_notices(out, 0, joined, left);
+    let told = notices::put_notices(out, 0, joined, left);
     let next = Server {
         joined,
         vectors: server.vectors,
@@ -188,7 +188,7 @@ fn leave_as(server: Server, id: u64, out: &mut [u8]) -> Served
     Served {
         number: 0,
         id: id as u32,
-        messages,
+        messages: told,
         server: next,
     }
 }

@@ -10,7 +10,7 @@ ghost use Rattle.reader.specs.Sizes.{ids};
 ghost use Rattle.server.specs.Clients.{joinedAt, clients};
 ghost use Rattle.server.specs.Parts.{noticeTo, noticesBytes};
 
-// What is said of an id and each client: so many times the same message.
+// What is said of an id and each client: the same message, `times` times.
 pub struct Notice {
     pub kind: u8,
     pub id: u8,

@@ -17,9 +17,11 @@ refused-requires c κs = search needs
 
 returns : tie.Need-returns
 returns c =
-    let s = c .before .before .before .before .args .server in
-    let l = c .before .before .before .before .args .out .now in
-    let e = c .before .before .refusal .ensures in
+    let c2 = c .before .before in
+    let c4 = c2 .before .before in
+    let s = c4 .args .server in
+    let l = c4 .args .out .now in
+    let e = c2 .refusal .ensures in
     rw (join-refused s (length l) (λ z. c .before .if1 .taken (e ∙ z)), c .refused .ensures, e) (serves-refused (refusal s (length l)) s l)
 
 lowest-free-requires : tie.Need-lowest-free-requires
@@ -41,12 +43,18 @@ same-length c = search needs
 returns-2 : tie.Need-returns-2
 unfolding ids
 returns-2 c =
-    let s = c .before .before .before .before .before .before .before .before .before .args .server in
-    let l = c .before .before .before .before .before .before .before .before .before .args .out .now in
-    let e = c .before .before .before .before .before .before .before .refusal .ensures in
-    let z = sym e ∙ c .before .before .before .before .before .before .if1 .left in
-    let f = c .before .before .before .before .before .lowest-free .ensures in
-    rw (join-goes-on s (length l) z, joins-free s (rw f at (c .before .before .before .before .if2 .taken))) (rw f at (c .before .before .join-as .ensures))
+    let c2 = c .before .before in
+    let c4 = c2 .before .before in
+    let c5 = c4 .before in
+    let c6 = c5 .before in
+    let c7 = c6 .before in
+    let c9 = c7 .before .before in
+    let s = c9 .args .server in
+    let l = c9 .args .out .now in
+    let e = c7 .refusal .ensures in
+    let z = sym e ∙ c6 .if1 .left in
+    let f = c5 .lowest-free .ensures in
+    rw (join-goes-on s (length l) z, joins-free s (rw f at (c4 .if2 .taken))) (rw f at (c2 .join-as .ensures))
 
 refused-requires-2 : tie.Need-refused-requires-2
 refused-requires-2 c κs = search needs
@@ -54,11 +62,16 @@ refused-requires-2 c κs = search needs
 returns-3 : tie.Need-returns-3
 unfolding ids
 returns-3 c =
-    let s = c .before .before .before .before .before .before .args .server in
-    let l = c .before .before .before .before .before .before .args .out .now in
-    let e = c .before .before .before .before .refusal .ensures in
-    let z = sym e ∙ c .before .before .before .if1 .left in
-    rw (join-goes-on s (length l) z, joins-full s (rw (c .before .before .lowest-free .ensures) at (c .before .if2 .left)), c .refused2 .ensures) (serves-refused 12 s l)
+    let c2 = c .before .before in
+    let c3 = c2 .before in
+    let c4 = c3 .before in
+    let c6 = c4 .before .before in
+    let s = c6 .args .server in
+    let l = c6 .args .out .now in
+    let e = c4 .refusal .ensures in
+    let z = sym e ∙ c3 .if1 .left in
+    rw (join-goes-on s (length l) z, joins-full s (rw (c2 .lowest-free .ensures) at (c .before .if2 .left)), c .refused2 .ensures)
+    (serves-refused 12 s l)
 
 pub join-spec : {M : Type 1} → statement M
 join-spec =

@@ -30,13 +30,15 @@ same-length c = search needs
 
 returns : tie.Need-returns
 returns c =
-    let a = c .before .before .before .before .before .before .args in
-    let p = c .before .before .before .before .before .before .pre in
+    let c3 = c .before .before .before in
+    let c6 = c3 .before .before .before in
+    let a = c6 .args in
+    let p = c6 .pre in
     let s = a .server in
     let room = join-room (s .joined) (a .id) (s .vectors) (p .1) (p .2) (p .0) in
     rw (c .with .ensures)
     (serves-done (a .id) (joinMessages (s .vectors) (clients (s .joined)) (a .id)) _ _ (a .out .now) _ _
-    (join-bytes (s .vectors) (s .joined) (a .id) (p .1)) (omega (arith, room)) (c .before .before .before .put-join .ensures .0) (c .before .before .before .put-join .ensures .1))
+    (join-bytes (s .vectors) (s .joined) (a .id) (p .1)) (omega (arith, room)) (c3 .put-join .ensures .0) (c3 .put-join .ensures .1))
 
 pub join-as-spec : {M : Type 1} → statement M
 join-as-spec =

@@ -37,17 +37,20 @@ same-length c = search needs
 
 returns : tie.Need-returns
 returns c =
-    let a = c .before .before .before .before .before .before .args in
-    let e = c .before .before .before .before .before .before .pre .0 in
+    let c2 = c .before .before in
+    let c4 = c2 .before .before in
+    let c6 = c4 .before .before in
+    let a = c6 .args in
+    let e = c6 .pre .0 in
     let h = joined-below (a .server .joined) (a .id) e in
     let now = joinedWithout (a .server .joined) (a .id) in
     let room = leave-room now (a .id) h (without-same (a .server .joined) (a .id) e) in
-    let w = c .before .before .before .before .without .ensures in
-    let count : 10 * c .before .before .put-notices .result ≡ length (noticesBytes (noticeOf 0 (a .id) 1 false) (clients now)) =
-    omega (arith, rw w at (c .before .before .put-notices .ensures .1)) in
+    let w = c4 .without .ensures in
+    let count : 10 * c2 .put-notices .result ≡ length (noticesBytes (noticeOf 0 (a .id) 1 false) (clients now)) =
+    omega (arith, rw w at (c2 .put-notices .ensures .1)) in
     rw w
     (serves-done (a .id) (leaveMessages (clients now) (a .id)) _ _ (a .out .now) _ _ (leave-bytes now (a .id) h) (omega (arith, room))
-    (rw w at (c .before .before .put-notices .ensures .0)) count)
+    (rw w at (c2 .put-notices .ensures .0)) count)
 
 pub leave-as-spec : {M : Type 1} → statement M
 leave-as-spec =

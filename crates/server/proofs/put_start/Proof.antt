@@ -17,7 +17,11 @@ same-length : tie.Need-same-length
 same-length c = search needs
 
 returns : tie.Need-returns
-returns c = c .before .before .put3 .ensures ∙ rw (c .before .before .before .before .before .before .put2 .ensures, c .before .before .before .before .before .before .before .before .before .before .put .ensures)
+returns c =
+    let c2 = c .before .before in
+    let c6 = c2 .before .before .before .before in
+    let c10 = c6 .before .before .before .before in
+    c2 .put3 .ensures ∙ rw (c6 .put2 .ensures, c10 .put .ensures)
 
 pub put-start-spec : {M : Type 1} → statement M
 put-start-spec =

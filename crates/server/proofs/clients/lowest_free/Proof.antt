@@ -1,5 +1,5 @@
 -- `server::clients::lowest_free` meets its contract. The loop's invariant: what is looked for lies at the id or behind it.
-use Prim.Native.Nat.{suc, _+_, _-_, _≤_, _<_}
+use Prim.Native.Nat.{suc, _-_, _≤_, _<_}
 use mathlib.Core.Bool.{true}
 use mathlib.Core.Path.{_≡_, sym, _∙_}
 use native.Mathlib.Numerals.{add-one}
@@ -43,8 +43,10 @@ loop-again c =
 
 returns : tie.Need-returns Inv-loop μ-loop
 returns c =
-    let l = c .before .before .loop in
-    sym (free-here (ids - l .id) (l .id) (c .before .before .before .args .joined) (sym (c .before .is-joined .ensures) ∙ c .if1 .left)) ∙ l .inv .1
+    let c2 = c .before .before in
+    let c3 = c2 .before in
+    let l = c2 .loop in
+    sym (free-here (ids - l .id) (l .id) (c3 .args .joined) (sym (c .before .is-joined .ensures) ∙ c .if1 .left)) ∙ l .inv .1
 
 pub lowest-free-spec : {M : Type 1} → statement M
 lowest-free-spec =

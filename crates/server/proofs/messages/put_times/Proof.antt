@@ -40,11 +40,14 @@ loop-less c = omega arith
 
 loop-again : tie.Need-loop-again Inv-loop μ-loop
 loop-again c =
-    let l = c .before .before .before .before .before .loop in
-    let a = c .before .before .before .before .before .before .before .args in
+    let c2 = c .before .before in
+    let c5 = c2 .before .before .before in
+    let c7 = c5 .before .before in
+    let l = c5 .loop in
+    let a = c7 .args in
     let at : 10 * (a .n + l .i) ≡ 10 * a .n + length (writtenTimes (l .i) (a .m)) = rw (times-length (l .i) (a .m)) (omega arith) in
-    let so : c .before .before .put .last .0 ≡ sets (a .out .now) (10 * a .n) (writtenTimes (l .i + 1) (a .m)) =
-    c .before .before .put .ensures
+    let so : c2 .put .last .0 ≡ sets (a .out .now) (10 * a .n) (writtenTimes (l .i + 1) (a .m)) =
+    c2 .put .ensures
     ∙ rw (l .inv .3, each-more written (l .i) (a .m)) (sets-behind (writtenTimes (l .i) (a .m)) (written (a .m)) (a .out .now) (10 * a .n) _ at) in
     (omega arith, omega arith, ap length so ∙ length-sets (a .out .now) (10 * a .n) (writtenTimes (l .i + 1) (a .m)), so)
 

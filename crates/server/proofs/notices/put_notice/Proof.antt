@@ -23,16 +23,22 @@ notice-to-requires c κs = search needs
 
 put-times-requires : tie.Need-put-times-requires
 put-times-requires c κs =
-    let a = c .before .before .before .before .before .args in
-    let e : isJoined (a .joined) (a .client) ≡ true = sym (c .before .before .before .is-joined .ensures) ∙ c .before .before .if1 .taken in
+    let c2 = c .before .before in
+    let c3 = c2 .before in
+    let c5 = c3 .before .before in
+    let a = c5 .args in
+    let e : isJoined (a .joined) (a .client) ≡ true = sym (c3 .is-joined .ensures) ∙ c2 .if1 .taken in
     let n : length (noticesBytes (a .notice) (joinedAt (a .joined) (a .client))) ≡ 10 * a .notice .times =
     rw (notice-one (a .notice) (a .joined) (a .client) e) (times-length (a .notice .times) (noticeTo (a .notice) (a .client))) in
     omega arith
 
 add-result : tie.Need-add-result
 add-result c =
-    let a = c .before .before .before .before .before .before .before .before .before .args in
-    let e : isJoined (a .joined) (a .client) ≡ true = sym (c .before .before .before .before .before .before .before .is-joined .ensures) ∙ c .before .before .before .before .before .before .if1 .taken in
+    let c6 = c .before .before .before .before .before .before in
+    let c7 = c6 .before in
+    let c9 = c7 .before .before in
+    let a = c9 .args in
+    let e : isJoined (a .joined) (a .client) ≡ true = sym (c7 .is-joined .ensures) ∙ c6 .if1 .taken in
     let n : length (noticesBytes (a .notice) (joinedAt (a .joined) (a .client))) ≡ 10 * a .notice .times =
     rw (notice-one (a .notice) (a .joined) (a .client) e) (times-length (a .notice .times) (noticeTo (a .notice) (a .client))) in
     omega arith
@@ -42,11 +48,16 @@ same-length c = search needs
 
 returns : tie.Need-returns
 returns c =
-    let a = c .before .before .before .before .before .before .before .before .before .args in
-    let e : isJoined (a .joined) (a .client) ≡ true = sym (c .before .before .before .before .before .before .before .is-joined .ensures) ∙ c .before .before .before .before .before .before .if1 .taken in
+    let c3 = c .before .before .before in
+    let c5 = c3 .before .before in
+    let c6 = c5 .before in
+    let c7 = c6 .before in
+    let c9 = c7 .before .before in
+    let a = c9 .args in
+    let e : isJoined (a .joined) (a .client) ≡ true = sym (c7 .is-joined .ensures) ∙ c6 .if1 .taken in
     let n : length (noticesBytes (a .notice) (joinedAt (a .joined) (a .client))) ≡ 10 * a .notice .times =
     rw (notice-one (a .notice) (a .joined) (a .client) e) (times-length (a .notice .times) (noticeTo (a .notice) (a .client))) in
-    (c .before .before .before .put-times .ensures ∙ rw (c .before .before .before .before .before .notice-to .ensures, notice-one (a .notice) (a .joined) (a .client) e), omega arith)
+    (c3 .put-times .ensures ∙ rw (c5 .notice-to .ensures, notice-one (a .notice) (a .joined) (a .client) e), omega arith)
 
 returns-2 : tie.Need-returns-2
 returns-2 c =

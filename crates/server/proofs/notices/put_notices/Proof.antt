@@ -43,33 +43,46 @@ put-notice-requires c κs =
     (h, omega (arith, notices-room (a .notice) (a .joined) (l .client) h))
 
 add-client : tie.Need-add-client Inv-loop μ-loop
-add-client c = let h = any-below _ _ (sym (c .before .before .before .before .before .any-from .ensures) ∙ c .before .before .before .before .if1 .taken) in omega (arith, ids-byte, h)
+add-client c =
+    let c4 = c .before .before .before .before in
+    let c5 = c4 .before in
+    let h = any-below _ _ (sym (c5 .any-from .ensures) ∙ c4 .if1 .taken) in omega (arith, ids-byte, h)
 
 loop-less : tie.Need-loop-less Inv-loop μ-loop
-loop-less c = let h = any-below _ _ (sym (c .before .before .before .before .before .any-from .ensures) ∙ c .before .before .before .before .if1 .taken) in omega (arith, h)
+loop-less c =
+    let c4 = c .before .before .before .before in
+    let c5 = c4 .before in
+    let h = any-below _ _ (sym (c5 .any-from .ensures) ∙ c4 .if1 .taken) in omega (arith, h)
 
 loop-again : tie.Need-loop-again Inv-loop μ-loop
 loop-again c =
-    let a = c .before .before .before .before .before .before .before .before .args in
-    let l = c .before .before .before .before .before .before .loop in
-    let h : l .client < ids = any-below _ _ (sym (c .before .before .before .before .before .any-from .ensures) ∙ c .before .before .before .before .if1 .taken) in
+    let c2 = c .before .before in
+    let c4 = c2 .before .before in
+    let c5 = c4 .before in
+    let c6 = c5 .before in
+    let c8 = c6 .before .before in
+    let a = c8 .args in
+    let l = c6 .loop in
+    let h : l .client < ids = any-below _ _ (sym (c5 .any-from .ensures) ∙ c4 .if1 .taken) in
     let new = noticesBytes (a .notice) (joinedAt (a .joined) (l .client)) in
     let old = noticesBytes (a .notice) (joinedBelow (l .client) (a .joined)) in
     let all = noticesBytes (a .notice) (joinedBelow (l .client + 1) (a .joined)) in
     let next : all ≡ old ++ new = notices-next (a .notice) (a .joined) (l .client) in
-    let turn : c .before .before .put-notice .last .0 ≡ sets (l .out) (10 * l .next) new = c .before .before .put-notice .ensures .0 in
-    let so : c .before .before .put-notice .last .0 ≡ sets (a .out .now) (10 * a .n) all =
+    let turn : c2 .put-notice .last .0 ≡ sets (l .out) (10 * l .next) new = c2 .put-notice .ensures .0 in
+    let so : c2 .put-notice .last .0 ≡ sets (a .out .now) (10 * a .n) all =
     turn ∙ rw (l .inv .3, next) (sets-behind old new (a .out .now) (10 * a .n) _ (l .inv .4)) in
     let long : length all ≡ length old + length new = ap length next ∙ length-append old new in
-    (omega arith, omega arith, ap length so ∙ length-sets (a .out .now) (10 * a .n) all, so, omega (arith, c .before .before .put-notice .ensures .1))
+    (omega arith, omega arith, ap length so ∙ length-sets (a .out .now) (10 * a .n) all, so, omega (arith, c2 .put-notice .ensures .1))
 
 same-length : tie.Need-same-length Inv-loop μ-loop
 same-length c = c .before .before .loop .inv .2
 
 returns : tie.Need-returns Inv-loop μ-loop
 returns c =
-    let l = c .before .before .loop in
-    rw (all-below (c .before .before .before .before .args .joined) (l .client) (sym (c .before .any-from .ensures) ∙ c .if1 .left) (l .inv .0)) (l .inv .3, l .inv .4)
+    let c2 = c .before .before in
+    let c4 = c2 .before .before in
+    let l = c2 .loop in
+    rw (all-below (c4 .args .joined) (l .client) (sym (c .before .any-from .ensures) ∙ c .if1 .left) (l .inv .0)) (l .inv .3, l .inv .4)
 
 pub put-notices-spec : {M : Type 1} → statement M
 put-notices-spec =
