@@ -79,8 +79,9 @@ static uint32_t (*const ivshmem_protocol_interface_wanted)(void) IVSHMEM_PROTOCO
 #define IVSHMEM_PROTOCOL_RECORD_BYTES 9
 #define IVSHMEM_PROTOCOL_HELD_BYTES 8
 
-/* Bytes of a message that is to be sent: the client's id, then the record. The most messages of a call, those of the last join
-   with the most vectors, and the bytes of a buffer that has room for them. Every join and leave asks for so many. */
+/* Bytes of a message that is to be sent: the client's id, then the record. The most messages that a call writes, those of
+   the 64th client's join with the most vectors, and the bytes of a buffer with room for them: every join and leave wants a
+   buffer of so many bytes or more. */
 #define IVSHMEM_PROTOCOL_SENT_BYTES 10
 #define IVSHMEM_PROTOCOL_MAX_SENT 2035
 #define IVSHMEM_PROTOCOL_BUFFER_BYTES 20350

@@ -1,6 +1,6 @@
 /* A client of an ivshmem server: connects, hands each message to the library as a record, and keeps or closes the descriptor that
    came with it as the answer says. To be copied or linked: client.c and descriptors.c, with their headers. For Linux, in C11;
-   this file may also be included from C++. server_messages.c and ivshmem_client.c use it. */
+   this file may also be included from C++. server_messages.c, ivshmem_client.c and server_clients.c use it. */
 #ifndef CLIENT_H
 #define CLIENT_H
 

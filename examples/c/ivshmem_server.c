@@ -14,7 +14,7 @@
    - Clients that do not read hold up the others' joins and leaves, and the server's end, for some time, and then no more: there
      are two seconds (-w) for all messages of a join, and as long for those of the leaves that are found together; the leaves that
      follow from these are included. Clients into whose sockets the messages have not all fitted by then are disconnected. They
-     are waited for because a socket holds some hundred messages, and the last of 64 clients with 16 vectors gets 1027 at once.
+     are waited for because a socket holds a few hundred messages, and the last of 64 clients with 16 vectors gets 1027 at once.
    - The system bounds the descriptors that a user's programs have sent and nobody has received by this program's limit of open
      files, unless it is privileged (ETOOMANYREFS). Clients that do not read can use all of them up, and disconnecting does not
      free those: a client frees them when it reads or ends. Until then a join disconnects whom it has a descriptor for, the new

@@ -1,7 +1,7 @@
 /* Clients of a real server, over client.c, which hold it to what it should send: the start of a client, joins and leaves as the
    others hear them, the shared memory, interrupts in both directions, a freed id, all ids taken, a server that can open nothing
-   for a moment, a client that does not read, and the server's end. Every wait ends after some seconds. Prints what is not so.
-   examples/c/real_server starts the server for it:
+   for a moment, a client that does not read, one that sends something, and the server's end. Every wait ends after some seconds.
+   Prints what is not so. examples/c/real_server starts the server for it:
 
        server_clients SOCKET BYTES VECTORS PROCESS
 

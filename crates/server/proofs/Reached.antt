@@ -14,11 +14,11 @@ use Rattle.server.specs.declared.Server.{Server}
 use Rattle.server.proofs.FreeLaws.{lowest-is-free}
 use Rattle.server.proofs.JoinedLaws.{same-bits, joined-beyond, none-joined, with-same, with-other, with-fits, without-same}
 use Rattle.server.proofs.JoinedLaws.{without-other}
-use Rattle.server.proofs.ServeLaws.{started-in, in-range, not-refused, by-join, by-leave, join-goes-on, leave-goes-on, joins-free, joins-full, leaves-joined, leaves-free}
+use Rattle.server.proofs.ServeLaws.{range-accepted, accepted-range, started-in, in-range, not-refused, by-join, by-leave, join-goes-on, leave-goes-on, joins-free, joins-full, leaves-joined, leaves-free}
 use Rattle.server.specs.Clients.{isJoined, joinedWith, joinedWithout, lowestFree}
 use Rattle.server.specs.Histories.{Act, joining, leaving, outcome}
 use Rattle.server.specs.Messages.{bufferBytes}
-use Rattle.server.specs.Reached.{after, EveryStateIsReached, ReachedIsSound}
+use Rattle.server.specs.Reached.{after, EveryStateIsReached, ReachedIsAccepted, VectorsAreFixed}
 use Rattle.server.specs.Serving.{Outcome, serverOf, inRange, started}
 
 after-then : (first second : List Act) (s : Server) → after s (first ++ second) ≡ after (after s first) second
@@ -149,37 +149,50 @@ every-state-is-reached s e fits =
     (λ id.
     all .are id
     ∙ by-less id ids (λ l. rw (lt-ltb id ids l)) (λ l. rw (le-ltb id ids l) (sym (joined-beyond (s .joined) id l)))) in
-    record { history = all .history; left = all .left ∙ rw same }
+    record { vectors = v; accepted = range-accepted v range; history = all .history; left = all .left ∙ rw same }
 
 -- a call keeps the number, and the bits within 64
-record Within (vectors : ℕ) (s : Server) : Type 0 where
-  same : s .vectors ≡ vectors
-  fits : s .joined < 2 ^ 64
+module _ (s : Server) where
+  abbrev Fits : Outcome → Type 0
+  Fits o = o .server .joined < 2 ^ 64
 
-abbrev After : (vectors : ℕ) → Outcome → Type 0
-After vectors o = Within vectors (o .server)
+  abbrev Same : Outcome → Type 0
+  Same o = o .server .vectors ≡ s .vectors
 
-within-one : (vectors : ℕ) (s : Server) (a : Act) → Within vectors s → Within vectors (outcome a s .server)
-within-one vectors s (joining room) k =
-    by-join s room (After vectors) (λ _. k)
-    (by-less (lowestFree (s .joined)) ids
-    (λ l.
-    rw (joins-free s l)
-    (record { same = k .same; fits = with-fits (s .joined) (lowestFree (s .joined)) l (lowest-is-free (s .joined) .free) (k .fits) }))
-    (λ l. rw (joins-full s l) k))
-within-one vectors s (leaving id room) k =
-    by-leave s room (After vectors) (λ _. k) id
-    (by-bool (isJoined (s .joined) id) (λ e. rw (leaves-joined s id e) (record { same = k .same; fits = omega (arith, k .fits) }))
-    (λ e. rw (leaves-free s id e) k))
+  fits-one : (a : Act) → s .joined < 2 ^ 64 → Fits (outcome a s)
+  fits-one (joining room) f =
+      by-join s room Fits (λ _. f)
+      (by-less (lowestFree (s .joined)) ids
+      (λ l. rw (joins-free s l) (with-fits (s .joined) (lowestFree (s .joined)) l (lowest-is-free (s .joined) .free) f))
+      (λ l. rw (joins-full s l) f))
+  fits-one (leaving id room) f =
+      by-leave s room Fits (λ _. f) id
+      (by-bool (isJoined (s .joined) id) (λ e. rw (leaves-joined s id e) (omega arith)) (λ e. rw (leaves-free s id e) f))
 
-within-all : (vectors : ℕ) (history : List Act) (s : Server) → Within vectors s → Within vectors (after s history)
+  same-one : (a : Act) → Same (outcome a s)
+  same-one (joining room) =
+      by-join s room Same (λ _. refl)
+      (by-less (lowestFree (s .joined)) ids (λ l. rw (joins-free s l)) (λ l. rw (joins-full s l)))
+  same-one (leaving id room) =
+      by-leave s room Same (λ _. refl) id
+      (by-bool (isJoined (s .joined) id) (λ e. rw (leaves-joined s id e)) (λ e. rw (leaves-free s id e)))
+
+pub vectors-are-fixed : VectorsAreFixed
 unfolding after
-within-all vectors [] s k = k
-within-all vectors (a ∷ later) s k = within-all vectors later (outcome a s .server) (within-one vectors s a k)
+vectors-are-fixed s [] = refl
+vectors-are-fixed s (a ∷ later) = vectors-are-fixed (outcome a s .server) later ∙ same-one s a
 
-pub reached-is-sound : ReachedIsSound
-reached-is-sound vectors history range =
-    let k = within-all vectors history (started vectors .server)
-    (rw (started-in vectors range) (record { same = refl; fits = omega arith })) in
-    let s = after (started vectors .server) history in
-    record { accepted = not-refused s (rw (k .same) range); same = k .same; fits = k .fits }
+fits-all : (history : List Act) (s : Server) → s .joined < 2 ^ 64 → after s history .joined < 2 ^ 64
+unfolding after
+fits-all [] s f = f
+fits-all (a ∷ later) s f = fits-all later (outcome a s .server) (fits-one s a f)
+
+pub reached-is-accepted : ReachedIsAccepted
+reached-is-accepted s r =
+    let begun = started (r .vectors) .server in
+    let range = accepted-range (r .vectors) (r .accepted) in
+    let from = started-in (r .vectors) range in
+    let same : s .vectors ≡ r .vectors =
+    rw (r .left) at (vectors-are-fixed begun (r .history)) ∙ ap (λ (b : Server). b .vectors) from in
+    let zero-fits : begun .joined < 2 ^ 64 = rw from (omega arith) in
+    (not-refused s (rw same range), rw (r .left) at (fits-all (r .history) begun zero-fits))

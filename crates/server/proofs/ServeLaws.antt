@@ -19,7 +19,7 @@ use Rattle.server.proofs.MessageLaws.{all-length}
 use Rattle.server.proofs.SetsLaws.{sets-over}
 use Rattle.server.specs.Clients.{isJoined, lowestFree}
 use Rattle.server.specs.Messages.{Sent, eachOf, allBytes, bufferBytes}
-use Rattle.server.specs.Serving.{Outcome, serverOf, inRange, started, done, refusedBy, joinAs, joins, JoinsTakeTheLowest, leaveAs, leaves, refusal, join, leave, answerOf, Serves}
+use Rattle.server.specs.Serving.{Outcome, serverOf, inRange, started, done, refusedBy, joinAs, joins, TakesLowest, JoinsTakeTheLowest, leaveAs, leaves, refusal, join, leave, answerOf, Serves}
 
 -- a start: nobody is joined, and the number of vectors is the one that it was handed, if that is in its range
 pub nobody : (vectors : ℕ) → started vectors .server .joined ≡ 0
@@ -29,6 +29,16 @@ nobody vectors = by-bool (inRange vectors) (λ e. rw e) (λ e. rw e)
 pub started-in : (vectors : ℕ) → inRange vectors ≡ true → started vectors .server ≡ serverOf 0 vectors
 unfolding started
 started-in vectors e = rw e
+
+-- it is accepted exactly where that is in its range
+pub range-accepted : (vectors : ℕ) → inRange vectors ≡ true → started vectors .number ≡ 0
+unfolding started
+range-accepted vectors e = rw e
+
+pub accepted-range : (vectors : ℕ) → started vectors .number ≡ 0 → inRange vectors ≡ true
+unfolding started
+accepted-range vectors z =
+    by-bool (inRange vectors) (λ e. e) (λ e. let one : started vectors .number ≡ 1 = rw e in absurd (omega (arith, one, z)))
 
 pub started-vectors : (vectors : ℕ) → 1 ≤ vectors → vectors ≤ mostVectors → started vectors .server .vectors ≡ vectors
 unfolding inRange
@@ -95,8 +105,8 @@ module _ (s : Server) where
   unfolding leaves
   leaves-free id e = rw e
 
-pub joins-take-the-lowest : JoinsTakeTheLowest
-joins-take-the-lowest s =
+lowest-taken : (s : Server) → TakesLowest s (joins s)
+lowest-taken s =
     let lowest = lowest-is-free (s .joined) in
     by-less (lowestFree (s .joined)) ids
     (λ l.
@@ -109,6 +119,9 @@ joins-take-the-lowest s =
     (λ l.
     rw (joins-full s l)
     (record { taken = λ e. absurd (omega arith); full = λ _ id h. lowest .before id (omega arith); only = λ _. refl }))
+
+pub joins-take-the-lowest : JoinsTakeTheLowest
+joins-take-the-lowest s room e = rw (join-goes-on s room e) (lowest-taken s)
 
 -- what holds of a refused call and of one that goes on holds of a call
 module _ (s : Server) (room : ℕ) (P : Outcome → Type 0) (refused : (number : ℕ) → P (refusedBy number s)) where

@@ -35,7 +35,7 @@ recordsFor client [] = []
 recordsFor client (m ∷ ms) = cond (eqb (m .client) client) (m .said ∷ recordsFor client ms) (recordsFor client ms)
 
 -- What has become of one client: the server's state, the records for the client since it joined last, and the ids that were joined
--- after the last call that left the client joined.
+-- after the last call after which the client was joined.
 pub record Seen : Type 0 where
   pub server : Server
   pub heard : List Record
@@ -88,7 +88,8 @@ allPlain [] = true
 allPlain (m ∷ ms) = isPlain m && allPlain ms
 
 -- A fresh reader with as many vectors is handed the records, cut in any way: it answers each with one message, none of them extra or
--- closed, and then knows these peers. Accepted calls take all of the bytes.
+-- closed, and then knows these peers. Accepted calls take all of the bytes. (`joined pieces` is the pieces one after the other, and no
+-- set of ids.)
 pub record Follows (vectors client : ℕ) (v : Seen) : Type 0 where
   pub messages : List Message
   pub one : length messages ≡ length (v .heard)

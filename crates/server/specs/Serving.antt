@@ -49,15 +49,6 @@ joinAs s id = done id (joinMessages (s .vectors) (clients (s .joined)) id) (serv
 unfoldable pub joins : Server → Outcome
 joins s = cond (ltb (lowestFree (s .joined)) ids) (joinAs s (lowestFree (s .joined))) (refusedBy 12 s)
 
--- A join that is accepted takes the lowest free id, and 12 is given exactly where all ids are joined.
-pub record TakesLowest (s : Server) (o : Outcome) : Type 0 where
-  pub taken : o .number ≡ 0 → (o .id < ids) × Lowest (s .joined) (o .id)
-  pub full : o .number ≡ 12 → (id : ℕ) → id < ids → isJoined (s .joined) id ≡ true
-  pub only : ((id : ℕ) → id < ids → isJoined (s .joined) id ≡ true) → o .number ≡ 12
-
-abbrev pub JoinsTakeTheLowest : Type 0
-JoinsTakeTheLowest = (s : Server) → TakesLowest s (joins s)
-
 -- R100: a leave frees an id; 4 where it is not joined
 abbrev pub leaveAs : Server → ℕ → Outcome
 leaveAs s id =
@@ -80,6 +71,15 @@ join s room = unlessRefused s room (joins s)
 
 unfoldable pub leave : Server → (id room : ℕ) → Outcome
 leave s id room = unlessRefused s room (leaves s id)
+
+-- Where neither 10 nor 11 is given, a join that is accepted takes the lowest free id, and 12 is given exactly where all ids are joined.
+pub record TakesLowest (s : Server) (o : Outcome) : Type 0 where
+  pub taken : o .number ≡ 0 → (o .id < ids) × Lowest (s .joined) (o .id)
+  pub full : o .number ≡ 12 → (id : ℕ) → id < ids → isJoined (s .joined) id ≡ true
+  pub only : ((id : ℕ) → id < ids → isJoined (s .joined) id ≡ true) → o .number ≡ 12
+
+abbrev pub JoinsTakeTheLowest : Type 0
+JoinsTakeTheLowest = (s : Server) (room : ℕ) → refusal s room ≡ 0 → TakesLowest s (join s room)
 
 -- R103: an answer has the number, the id, how many messages there are, and the state;
 abbrev pub answerOf : Outcome → Served

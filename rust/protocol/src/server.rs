@@ -126,8 +126,8 @@ impl<'buffer> SentMessages<'buffer> {
         self.rest
     }
 
-    /// What the next message says, which names this id. Its place tells: behind the three of the start, a join's messages name
-    /// each id as often in a row as there are vectors.
+    /// What the next message says, which names this id. Its place tells: behind the three of the start, a join's messages to one
+    /// client name one id as often as there are vectors, and then another.
     fn message(&self, id: u8) -> Message {
         match (self.joins, self.place) {
             (false, _) => Message::Disconnected { id },
