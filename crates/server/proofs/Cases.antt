@@ -8,18 +8,19 @@ use Rattle.common.specs.Lists.{tabulate}
 use Rattle.common.specs.Tests.{first}
 use Rattle.reader.specs.Sizes.{ids, mostVectors}
 use Rattle.server.specs.declared.Server.{Server}
+use Rattle.server.specs.declared.Started.{Started}
 use Rattle.server.specs.Clients.{isJoined, joinedAt, joinedBelow, freeFrom, lowestFree}
 use Rattle.server.specs.Histories.{Act, joining, leaving, outcome}
 use Rattle.server.specs.Messages.{eachOf, toJoiner, toOthers, joinMessages, leaveMessages, unsigned, bytesOf, sentBytes}
 use Rattle.server.specs.Messages.{allBytes, mostSent, bufferBytes}
-use Rattle.server.specs.Serving.{Outcome, serverOf, inRange, started, joins, leaves, refusal, join, leave}
+use Rattle.server.specs.Serving.{Outcome, serverOf, inRange, started, joins, leaves, refusal, join, leave, answerOf}
 
--- the number, the id, how many messages there are, and who is joined then
+-- an answer: the number, the id, how many messages there are, and who is joined then
 abbrev row : (number id messages joined : ℕ) → List ℕ
 row number id messages joined = number ∷ id ∷ messages ∷ joined ∷ []
 
 abbrev rowOf : Outcome → List ℕ
-rowOf o = row (o .number) (o .id) (length (o .sent)) (o .server .joined)
+rowOf o = row (answerOf o .number) (answerOf o .id) (answerOf o .messages) (answerOf o .server .joined)
 
 pub rows : Server → List Act → List (List ℕ)
 rows s [] = []
@@ -83,7 +84,12 @@ pub refusals :
 unfolding numbers join leave joins leaves refusal first inRange mostVectors bufferBytes mostSent lowestFree freeFrom isJoined ids
 refusals = refl
 
-pub starts : map (λ vectors. started vectors .number) (0 ∷ 1 ∷ 16 ∷ 17 ∷ []) ≡ 1 ∷ 0 ∷ 0 ∷ 1 ∷ []
+-- a start: the number, who is joined, and the number of vectors
+abbrev startRow : Started → List ℕ
+startRow s = s .number ∷ s .server .joined ∷ s .server .vectors ∷ []
+
+pub starts : map (λ vectors. startRow (started vectors)) (0 ∷ 1 ∷ 16 ∷ 17 ∷ [])
+    ≡ (1 ∷ 0 ∷ 0 ∷ []) ∷ (0 ∷ 0 ∷ 1 ∷ []) ∷ (0 ∷ 0 ∷ 16 ∷ []) ∷ (1 ∷ 0 ∷ 0 ∷ []) ∷ []
 unfolding started inRange mostVectors
 starts = refl
 

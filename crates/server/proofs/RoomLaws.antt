@@ -18,7 +18,7 @@ use Rattle.server.proofs.FreeLaws.{at-joined, at-free, below-next, clie
 use Rattle.server.proofs.ListLaws.{each-append, each-one, each-length}
 use Rattle.server.specs.Clients.{isJoined, joinedAt, joinedBelow, clients}
 use Rattle.server.specs.Messages.{eachOf, mostSent, bufferBytes}
-use Rattle.server.specs.Parts.{messageOf, written, writtenTimes, noticeOf, noticeBytes, noticesBytes, joinBytes}
+use Rattle.server.specs.Parts.{messageOf, written, writtenTimes, noticeOf, noticeTo, noticeBytes, noticesBytes, joinBytes}
 use Rattle.server.specs.Serving.{inRange}
 
 pub times-length : (n : ℕ) (m : Message) → length (writtenTimes n m) ≡ 10 * n
@@ -65,6 +65,9 @@ leave-room joined id h free =
 module _ (n : Notice) (joined : ℕ) where
   pub notice-one : (client : ℕ) → isJoined joined client ≡ true → noticesBytes n (joinedAt joined client) ≡ noticeBytes n client
   notice-one client e = rw (at-joined joined client e) (each-one (noticeBytes n) client)
+
+  pub notice-one-length : (client : ℕ) → isJoined joined client ≡ true → length (noticesBytes n (joinedAt joined client)) ≡ 10 * n .times
+  notice-one-length client e = rw (notice-one client e) (times-length (n .times) (noticeTo n client))
 
   pub notice-none : (client : ℕ) → isJoined joined client ≡ false → noticesBytes n (joinedAt joined client) ≡ []
   unfolding eachOf

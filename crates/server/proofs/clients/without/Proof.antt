@@ -1,7 +1,6 @@
 -- `server::clients::without` meets its contract.
 use Rattle.reader.specs.Sizes.{ids}
 use Rattle.server.proofs.JoinedLaws.{joined-below, joined-le, one-shifted}
--- `server::clients::without` meets its contract.
 use Rattle.server.proofs.clients.without.Statement.{statement}
 use Rattle.server.proofs.clients.without.Tie as tie
 

@@ -1,13 +1,10 @@
 -- `server::notices::put_notice` meets its contract.
-use Prim.Native.Nat.{_*_}
 use mathlib.Core.Bool.{true}
 use mathlib.Core.Path.{_≡_, refl, sym, _∙_}
 use native.Mathlib.Omega.{arith}
-use lib.ListN.{length}
 use Rattle.reader.proofs.SizeLaws.{ids-byte}
-use Rattle.server.proofs.RoomLaws.{times-length, notice-one, notice-none}
-use Rattle.server.specs.Clients.{isJoined, joinedAt}
-use Rattle.server.specs.Parts.{noticeTo, noticesBytes}
+use Rattle.server.proofs.RoomLaws.{notice-one, notice-one-length, notice-none}
+use Rattle.server.specs.Clients.{isJoined}
 use borrow.Author.Needs.{needs}
 use Rattle.server.proofs.notices.put_notice.Statement.{statement}
 use Rattle.server.proofs.notices.put_notice.Tie as tie
@@ -28,8 +25,7 @@ put-times-requires c κs =
     let c5 = c3 .before .before in
     let a = c5 .args in
     let e : isJoined (a .joined) (a .client) ≡ true = sym (c3 .is-joined .ensures) ∙ c2 .if1 .taken in
-    let n : length (noticesBytes (a .notice) (joinedAt (a .joined) (a .client))) ≡ 10 * a .notice .times =
-    rw (notice-one (a .notice) (a .joined) (a .client) e) (times-length (a .notice .times) (noticeTo (a .notice) (a .client))) in
+    let n = notice-one-length (a .notice) (a .joined) (a .client) e in
     omega arith
 
 add-result : tie.Need-add-result
@@ -39,8 +35,7 @@ add-result c =
     let c9 = c7 .before .before in
     let a = c9 .args in
     let e : isJoined (a .joined) (a .client) ≡ true = sym (c7 .is-joined .ensures) ∙ c6 .if1 .taken in
-    let n : length (noticesBytes (a .notice) (joinedAt (a .joined) (a .client))) ≡ 10 * a .notice .times =
-    rw (notice-one (a .notice) (a .joined) (a .client) e) (times-length (a .notice .times) (noticeTo (a .notice) (a .client))) in
+    let n = notice-one-length (a .notice) (a .joined) (a .client) e in
     omega arith
 
 same-length : tie.Need-same-length
@@ -55,8 +50,7 @@ returns c =
     let c9 = c7 .before .before in
     let a = c9 .args in
     let e : isJoined (a .joined) (a .client) ≡ true = sym (c7 .is-joined .ensures) ∙ c6 .if1 .taken in
-    let n : length (noticesBytes (a .notice) (joinedAt (a .joined) (a .client))) ≡ 10 * a .notice .times =
-    rw (notice-one (a .notice) (a .joined) (a .client) e) (times-length (a .notice .times) (noticeTo (a .notice) (a .client))) in
+    let n = notice-one-length (a .notice) (a .joined) (a .client) e in
     (c3 .put-times .ensures ∙ rw (c5 .notice-to .ensures, notice-one (a .notice) (a .joined) (a .client) e), omega arith)
 
 returns-2 : tie.Need-returns-2
