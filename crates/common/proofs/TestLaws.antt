@@ -8,7 +8,7 @@ use native.Mathlib.Omega.{arith}
 use lib.Dec.{eqb, leb, ltb}
 use borrow.Author.Tests.{leb-true, ltb-true, eqb-true, eqb-false}
 use lib.ListN.{get_or}
-use Rattle.common.specs.Tests.{Row, row, first, everyAfter, every, below}
+use Rattle.common.specs.Tests.{Row, row, first, every_after, every, below}
 
 pub and_left : (a b : Bool) → a && b ≡ true → a ≡ true
 and_left true b e = refl
@@ -18,19 +18,19 @@ pub and_right : (a b : Bool) → a && b ≡ true → b ≡ true
 and_right true b e = e
 and_right false b e = let z : ◌≡◌ {A = ℕ} 0 1 = cc in absurd (omega arith)
 
-pub and-true : (a : Bool) → (a && true) ≡ a
-and-true true = refl
-and-true false = refl
+pub and_true : (a : Bool) → (a && true) ≡ a
+and_true true = refl
+and_true false = refl
 
 pub and_assoc : (a b c : Bool) → ((a && b) && c) ≡ (a && (b && c))
 and_assoc true b c = refl
 and_assoc false b c = refl
 
-pub and-swap : (a b c d : Bool) → ((a && b) && (c && d)) ≡ ((a && c) && (b && d))
-and-swap false b c d = refl
-and-swap true true c d = refl
-and-swap true false true d = refl
-and-swap true false false d = refl
+pub and_swap : (a b c d : Bool) → ((a && b) && (c && d)) ≡ ((a && c) && (b && d))
+and_swap false b c d = refl
+and_swap true true c d = refl
+and_swap true false true d = refl
+and_swap true false false d = refl
 
 -- one test more
 pub below_suc : (n : ℕ) (t : ℕ → Bool) → below (suc n) t ≡ (below n t && t n)
@@ -38,38 +38,38 @@ unfolding below
 below_suc n t = refl
 
 -- what a test of two parts tells, as rules for omega
-pub first-le : (a b : ℕ) (t : Bool) → leb a b && t ≡ true → a ≤ b
-first-le a b t e = leb-true a b (and_left (leb a b) t e)
+pub first_le : (a b : ℕ) (t : Bool) → leb a b && t ≡ true → a ≤ b
+first_le a b t e = leb-true a b (and_left (leb a b) t e)
 
 pub second_lt : (t : Bool) (a b : ℕ) → t && ltb a b ≡ true → a < b
 second_lt t a b e = ltb-true a b (and_right t (ltb a b) e)
 
 -- One false test makes the whole false, and where the whole is true each test is.
-stays-false : (bs : List Bool) → everyAfter false bs ≡ false
-stays-false [] = refl
-stays-false (b ∷ bs) = stays-false bs
+stays_false : (bs : List Bool) → every_after false bs ≡ false
+stays_false [] = refl
+stays_false (b ∷ bs) = stays_false bs
 
-after-false : (ok : Bool) (bs : List Bool) (k : ℕ) → get_or bs k true ≡ false → everyAfter ok bs ≡ false
-after-false ok [] k e = let z : ◌≡◌ {A = ℕ} 0 1 = cc in absurd (omega arith)
-after-false true (b ∷ bs) zero e = rw e (stays-false bs)
-after-false false (b ∷ bs) zero e = stays-false bs
-after-false true (b ∷ bs) (suc k) e = after-false b bs k e
-after-false false (b ∷ bs) (suc k) e = stays-false bs
+after_false : (ok : Bool) (bs : List Bool) (k : ℕ) → get_or bs k true ≡ false → every_after ok bs ≡ false
+after_false ok [] k e = let z : ◌≡◌ {A = ℕ} 0 1 = cc in absurd (omega arith)
+after_false true (b ∷ bs) zero e = rw e (stays_false bs)
+after_false false (b ∷ bs) zero e = stays_false bs
+after_false true (b ∷ bs) (suc k) e = after_false b bs k e
+after_false false (b ∷ bs) (suc k) e = stays_false bs
 
-pub every-false : (bs : List Bool) (k : ℕ) → get_or bs k true ≡ false → every bs ≡ false
+pub every_false : (bs : List Bool) (k : ℕ) → get_or bs k true ≡ false → every bs ≡ false
 unfolding every
-every-false bs k e = after-false true bs k e
+every_false bs k e = after_false true bs k e
 
 pub every_true : (bs : List Bool) → every bs ≡ true → (k : ℕ) → get_or bs k true ≡ true
 every_true bs e k = by (get_or bs k true) refl
   where
     by : (b : Bool) → get_or bs k true ≡ b → get_or bs k true ≡ true
     by true f = f
-    by false f = let z : false ≡ true = sym (every-false bs k f) ∙ e in f ∙ z
+    by false f = let z : false ≡ true = sym (every_false bs k f) ∙ e in f ∙ z
 
-pub and-false : (a b : Bool) → b ≡ false → (a && b) ≡ false
-and-false true b e = e
-and-false false b e = refl
+pub and_false : (a b : Bool) → b ≡ false → (a && b) ≡ false
+and_false true b e = e
+and_false false b e = refl
 
 -- Rows in two parts. What the first part gives, where it gives anything, and what the second gives where the first gives nothing.
 pub first_stops : (xs ys : List Row) → (first xs ≡ 0 → ⊥) → first (xs ++ ys) ≡ first xs
@@ -88,35 +88,35 @@ abbrev pub positive : List Row → Bool
 positive [] = true
 positive (x ∷ xs) = ltb 0 x.number && positive xs
 
-split-row : (x : Row) (n : ℕ) → ltb 0 x.number ≡ true → cond x.holds x.number n ≡ 0 → (x.holds ≡ false) × (n ≡ 0)
-split-row x n p e = by x.holds refl
+split_row : (x : Row) (n : ℕ) → ltb 0 x.number ≡ true → cond x.holds x.number n ≡ 0 → (x.holds ≡ false) × (n ≡ 0)
+split_row x n p e = by x.holds refl
   where
     by : (b : Bool) → x.holds ≡ b → (x.holds ≡ false) × (n ≡ 0)
     by true f = let z : x.number ≡ 0 = rw f at e in absurd (omega (arith, ltb-true 0 x.number p))
     by false f = (f, rw f at e)
 
-pub first-none : (xs : List Row) → positive xs ≡ true → first xs ≡ 0 → (k : ℕ) → (get_or xs k (row 0 false)).holds ≡ false
+pub first_none : (xs : List Row) → positive xs ≡ true → first xs ≡ 0 → (k : ℕ) → (get_or xs k (row 0 false)).holds ≡ false
 unfolding first
-first-none [] p e k = refl
-first-none (x ∷ xs) p e zero = (split-row x (first xs) (and_left (ltb 0 x.number) (positive xs) p) e).0
-first-none (x ∷ xs) p e (suc k) =
-    first-none xs (and_right (ltb 0 x.number) (positive xs) p)
-    (split-row x (first xs) (and_left (ltb 0 x.number) (positive xs) p) e).1 k
+first_none [] p e k = refl
+first_none (x ∷ xs) p e zero = (split_row x (first xs) (and_left (ltb 0 x.number) (positive xs) p) e).0
+first_none (x ∷ xs) p e (suc k) =
+    first_none xs (and_right (ltb 0 x.number) (positive xs) p)
+    (split_row x (first xs) (and_left (ltb 0 x.number) (positive xs) p) e).1 k
 
-pub first-goes-on : (xs ys : List Row) → positive xs ≡ true → first xs ≡ 0 → first (xs ++ ys) ≡ first ys
+pub first_goes_on : (xs ys : List Row) → positive xs ≡ true → first xs ≡ 0 → first (xs ++ ys) ≡ first ys
 unfolding first
-first-goes-on [] ys p e = refl
-first-goes-on (x ∷ xs) ys p e =
-    let s = split-row x (first xs) (and_left (ltb 0 x.number) (positive xs) p) e in
-    rw s.0 (first-goes-on xs ys (and_right (ltb 0 x.number) (positive xs) p) s.1)
+first_goes_on [] ys p e = refl
+first_goes_on (x ∷ xs) ys p e =
+    let s = split_row x (first xs) (and_left (ltb 0 x.number) (positive xs) p) e in
+    rw s.0 (first_goes_on xs ys (and_right (ltb 0 x.number) (positive xs) p) s.1)
 
 -- both parts give nothing where the whole does
-pub first-parts : (xs ys : List Row) → positive xs ≡ true → first (xs ++ ys) ≡ 0 → (first xs ≡ 0) × (first ys ≡ 0)
+pub first_parts : (xs ys : List Row) → positive xs ≡ true → first (xs ++ ys) ≡ 0 → (first xs ≡ 0) × (first ys ≡ 0)
 unfolding first
-first-parts [] ys p e = (refl, e)
-first-parts (x ∷ xs) ys p e =
-    let s = split-row x (first (xs ++ ys)) (and_left (ltb 0 x.number) (positive xs) p) e in
-    let t = first-parts xs ys (and_right (ltb 0 x.number) (positive xs) p) s.1 in
+first_parts [] ys p e = (refl, e)
+first_parts (x ∷ xs) ys p e =
+    let s = split_row x (first (xs ++ ys)) (and_left (ltb 0 x.number) (positive xs) p) e in
+    let t = first_parts xs ys (and_right (ltb 0 x.number) (positive xs) p) s.1 in
     (rw s.0 t.0, t.1)
 
 -- two ways to go on, by whether two numbers are equal
@@ -140,10 +140,10 @@ true_below zero t f = refl
 true_below (suc n) t f = rw (true_below n t (λ i h. f i (omega arith)), f n (omega arith))
 
 -- where no row of a table is given, its first test fails and no row of the rest is given
-pub first-zero : (n : ℕ) (b : Bool) (rows : List Row) → first (row (suc n) b ∷ rows) ≡ 0 → (b ≡ false) × (first rows ≡ 0)
+pub first_zero : (n : ℕ) (b : Bool) (rows : List Row) → first (row (suc n) b ∷ rows) ≡ 0 → (b ≡ false) × (first rows ≡ 0)
 unfolding first
-first-zero n true rows e = absurd (omega arith)
-first-zero n false rows e = (refl, e)
+first_zero n true rows e = absurd (omega arith)
+first_zero n false rows e = (refl, e)
 
 -- two tests that hold together are one
 pub alike : (a b : Bool) → (a ≡ true → b ≡ true) → (b ≡ true → a ≡ true) → a ≡ b
@@ -152,27 +152,27 @@ alike false true f g = g refl
 alike false false f g = refl
 
 -- a test at every number below a sum: those of the first part, then those of the second
-pub below-add : (a n : ℕ) (t : ℕ → Bool) → below (a + n) t ≡ (below a t && below n (λ k. t (a + k)))
+pub below_add : (a n : ℕ) (t : ℕ → Bool) → below (a + n) t ≡ (below a t && below n (λ k. t (a + k)))
 unfolding below
-below-add a zero t = rw add-zero (sym (and-true (below a t)))
-below-add a (suc n) t =
+below_add a zero t = rw add-zero (sym (and_true (below a t)))
+below_add a (suc n) t =
     let e : a + suc n ≡ suc (a + n) = omega arith in
-    rw (e, below-add a n t) (and_assoc (below a t) (below n (λ k. t (a + k))) (t (a + n)))
+    rw (e, below_add a n t) (and_assoc (below a t) (below n (λ k. t (a + k))) (t (a + n)))
 
 -- a test at every entry of n rows of m entries each, row by row
 pub below_rows : (n m : ℕ) (t : ℕ → Bool) → below (n * m) t ≡ below n (λ i. below m (λ v. t (i * m + v)))
 unfolding below
 below_rows zero m t = rw zero-mul
 below_rows (suc n) m t =
-    rw (suc-mul n m, below-add (n * m) m t, below_rows n m t)
+    rw (suc-mul n m, below_add (n * m) m t, below_rows n m t)
 
-pub below-ext : (n : ℕ) (t u : ℕ → Bool) → ((i : ℕ) → i < n → t i ≡ u i) → below n t ≡ below n u
+pub below_ext : (n : ℕ) (t u : ℕ → Bool) → ((i : ℕ) → i < n → t i ≡ u i) → below n t ≡ below n u
 unfolding below
-below-ext zero t u same = refl
-below-ext (suc n) t u same = rw (below-ext n t u (λ i h. same i (omega arith)), same n (omega arith))
+below_ext zero t u same = refl
+below_ext (suc n) t u same = rw (below_ext n t u (λ i h. same i (omega arith)), same n (omega arith))
 
 -- two tests at every number below n
 pub below_both : (n : ℕ) (t u : ℕ → Bool) → below n (λ i. t i && u i) ≡ (below n t && below n u)
 unfolding below
 below_both zero t u = refl
-below_both (suc n) t u = rw (below_both n t u) (and-swap (below n t) (below n u) (t n) (u n))
+below_both (suc n) t u = rw (below_both n t u) (and_swap (below n t) (below n u) (t n) (u n))

@@ -5,22 +5,22 @@ use native.Mathlib.Nat.{mod-eq_of_lt}
 use native.Mathlib.Omega.{arith}
 use lib.Bits.{bit_and, bit_or, and_shr, and_mod, or_shr, or_mod}
 use lib.Pow.{shl-shr, shr-shr, field, mod-mod-pow, mod-pow-add}
-use Rattle.common.specs.Bytes.{byte, bytes, number, setByte}
+use Rattle.common.specs.Bytes.{byte, bytes, number, set_byte}
 
-pub byte-and : (k a b : ℕ) → byte k (bit_and a b) ≡ bit_and (byte k a) (byte k b)
-byte-and k a b = rw (and_shr a b (8 * k)) (and_mod (a / 2 ^ (8 * k)) (b / 2 ^ (8 * k)) 8)
+pub byte_and : (k a b : ℕ) → byte k (bit_and a b) ≡ bit_and (byte k a) (byte k b)
+byte_and k a b = rw (and_shr a b (8 * k)) (and_mod (a / 2 ^ (8 * k)) (b / 2 ^ (8 * k)) 8)
 
 pub byte_or : (k a b : ℕ) → byte k (bit_or a b) ≡ bit_or (byte k a) (byte k b)
 byte_or k a b = rw (or_shr a b (8 * k)) (or_mod (a / 2 ^ (8 * k)) (b / 2 ^ (8 * k)) 8)
 
 -- a number shifted up by k bytes, and one cut to its k lowest
-pub byte-shifted : (i k x : ℕ) → byte (i + k) (x * 2 ^ (8 * k)) ≡ byte i x
-byte-shifted i k x =
+pub byte_shifted : (i k x : ℕ) → byte (i + k) (x * 2 ^ (8 * k)) ≡ byte i x
+byte_shifted i k x =
     let e : 8 * (i + k) ≡ 8 * k + 8 * i = omega arith in
     rw (e, ← shr-shr (x * 2 ^ (8 * k)) (8 * k) (8 * i), shl-shr x (8 * k))
 
-pub byte-mod : (i k x : ℕ) → i < k → byte i (x % 2 ^ (8 * k)) ≡ byte i x
-byte-mod i k x h =
+pub byte_mod : (i k x : ℕ) → i < k → byte i (x % 2 ^ (8 * k)) ≡ byte i x
+byte_mod i k x h =
     let e : 8 * k ≡ 8 * (k - i) + 8 * i = omega arith in
     let f : 8 * (k - i) ≡ 8 * (k - i - 1) + 8 = omega arith in
     rw (e, field x (8 * (k - i)) (8 * i), f, mod-mod-pow (x / 2 ^ (8 * i)) (8 * (k - i - 1)) 8)
@@ -52,16 +52,16 @@ pub whole_word : (x : ℕ) → x < 2 ^ 32 → x ≡ part 4 0 x
 whole_word x h = sym (mod-eq_of_lt h) ∙ low_word x
 
 -- what holds of each of a word's bytes
-pub each-byte : (P : ℕ → Type 0) → P 0 → P 1 → P 2 → P 3 → (j : ℕ) → j < 4 → P j
-each-byte P a b c d zero h = a
-each-byte P a b c d (suc zero) h = b
-each-byte P a b c d (suc (suc zero)) h = c
-each-byte P a b c d (suc (suc (suc zero))) h = d
-each-byte P a b c d (suc (suc (suc (suc j)))) h = absurd (omega arith)
+pub each_byte : (P : ℕ → Type 0) → P 0 → P 1 → P 2 → P 3 → (j : ℕ) → j < 4 → P j
+each_byte P a b c d zero h = a
+each_byte P a b c d (suc zero) h = b
+each_byte P a b c d (suc (suc zero)) h = c
+each_byte P a b c d (suc (suc (suc zero))) h = d
+each_byte P a b c d (suc (suc (suc (suc j)))) h = absurd (omega arith)
 
-pub byte-not : (m : ℕ) → m < 2 ^ 32 → (j : ℕ) → j < 4 → byte j (2 ^ 32 - 1 - m) ≡ 255 - byte j m
-byte-not m h =
-    each-byte (λ j. byte j (2 ^ 32 - 1 - m) ≡ 255 - byte j m) (omega arith) (omega arith) (omega arith) (omega arith)
+pub byte_not : (m : ℕ) → m < 2 ^ 32 → (j : ℕ) → j < 4 → byte j (2 ^ 32 - 1 - m) ≡ 255 - byte j m
+byte_not m h =
+    each_byte (λ j. byte j (2 ^ 32 - 1 - m) ≡ 255 - byte j m) (omega arith) (omega arith) (omega arith) (omega arith)
 
 -- words that agree in each byte are the same
 pub same_word : (x y : ℕ) → x < 2 ^ 32 → y < 2 ^ 32 → ((j : ℕ) → j < 4 → byte j x ≡ byte j y) → x ≡ y
@@ -70,10 +70,10 @@ same_word x y hx hy e =
     whole_word x hx ∙ all ∙ sym (whole_word y hy)
 
 -- a number with a byte replaced is a word
-pub setByte-small : (k b x : ℕ) → b < 256 → setByte k b x < 2 ^ 32
-unfolding setByte bytes number
-setByte-small zero b x h = omega arith
-setByte-small (suc zero) b x h = omega arith
-setByte-small (suc (suc zero)) b x h = omega arith
-setByte-small (suc (suc (suc zero))) b x h = omega arith
-setByte-small (suc (suc (suc (suc k)))) b x h = omega arith
+pub set_byte_small : (k b x : ℕ) → b < 256 → set_byte k b x < 2 ^ 32
+unfolding set_byte bytes number
+set_byte_small zero b x h = omega arith
+set_byte_small (suc zero) b x h = omega arith
+set_byte_small (suc (suc zero)) b x h = omega arith
+set_byte_small (suc (suc (suc zero))) b x h = omega arith
+set_byte_small (suc (suc (suc (suc k)))) b x h = omega arith

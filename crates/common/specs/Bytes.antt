@@ -21,8 +21,8 @@ number [] = 0
 number (b ∷ bs) = b + 256 * number bs
 
 -- a 32-bit word with its byte k replaced
-unfoldable pub setByte : ℕ → ℕ → ℕ → ℕ
-setByte k b x = number (set (bytes 4 x) k b)
+unfoldable pub set_byte : ℕ → ℕ → ℕ → ℕ
+set_byte k b x = number (set (bytes 4 x) k b)
 
 -- a byte of which a write replaces only the bits of a mask: (old and not mask) or (new and mask)
 abbrev pub merge : ℕ → ℕ → ℕ → ℕ

@@ -10,21 +10,21 @@ pub record FedOf (A M : Type 0) : Type 0 where
 abbrev pub Fed : Type 0 → Type 0
 Fed M = FedOf ℕ M
 
-abbrev pub fedTo : {A M : Type 0} → M → List A → FedOf A M
-fedTo m written = record { machine = m; written = written }
+abbrev pub fed_to : {A M : Type 0} → M → List A → FedOf A M
+fed_to m written = record { machine = m; written = written }
 
 -- byte after byte
-unfoldable pub fedAll : {A M : Type 0} → (M → ℕ → FedOf A M) → M → List ℕ → FedOf A M
-fedAll feed m [] = fedTo m []
-fedAll feed m (b ∷ bs) =
-    fedTo (fedAll feed (feed m b).machine bs).machine ((feed m b).written ++ (fedAll feed (feed m b).machine bs).written)
+unfoldable pub fed_all : {A M : Type 0} → (M → ℕ → FedOf A M) → M → List ℕ → FedOf A M
+fed_all feed m [] = fed_to m []
+fed_all feed m (b ∷ bs) =
+    fed_to (fed_all feed (feed m b).machine bs).machine ((feed m b).written ++ (fed_all feed (feed m b).machine bs).written)
 
 -- piece after piece: each is fed where the one before left the machine
-unfoldable pub fedPieces : {A M : Type 0} → (M → ℕ → FedOf A M) → M → List (List ℕ) → FedOf A M
-fedPieces feed m [] = fedTo m []
-fedPieces feed m (p ∷ ps) =
-    fedTo (fedPieces feed (fedAll feed m p).machine ps).machine
-    ((fedAll feed m p).written ++ (fedPieces feed (fedAll feed m p).machine ps).written)
+unfoldable pub fed_pieces : {A M : Type 0} → (M → ℕ → FedOf A M) → M → List (List ℕ) → FedOf A M
+fed_pieces feed m [] = fed_to m []
+fed_pieces feed m (p ∷ ps) =
+    fed_to (fed_pieces feed (fed_all feed m p).machine ps).machine
+    ((fed_all feed m p).written ++ (fed_pieces feed (fed_all feed m p).machine ps).written)
 
 -- the whole that pieces make
 unfoldable pub joined : List (List ℕ) → List ℕ

@@ -15,12 +15,12 @@ first [] = 0
 first (r ∷ rs) = cond r.holds r.number (first rs)
 
 -- all tests of a list hold, taken from the left as the code's `a & b & c`
-abbrev pub everyAfter : Bool → List Bool → Bool
-everyAfter ok [] = ok
-everyAfter ok (b ∷ bs) = everyAfter (ok && b) bs
+abbrev pub every_after : Bool → List Bool → Bool
+every_after ok [] = ok
+every_after ok (b ∷ bs) = every_after (ok && b) bs
 
 unfoldable pub every : List Bool → Bool
-every bs = everyAfter true bs
+every bs = every_after true bs
 
 -- a test holds at every number below n
 unfoldable pub below : ℕ → (ℕ → Bool) → Bool

@@ -10,19 +10,19 @@ use lib.Dec.{eqb}
 use lib.Pow.{shl_lt, ones_lt, pow_mono}
 use Rattle.common.specs.Bytes.{byte, merge}
 use Rattle.common.specs.Tests.{below}
-use Rattle.common.proofs.ByteLaws.{merge-zero}
+use Rattle.common.proofs.ByteLaws.{merge_zero}
 use Rattle.common.proofs.TestLaws.{below_true}
-use Rattle.common.proofs.WordLaws.{byte-and, byte_or, byte-not, byte-mod, byte-shifted}
+use Rattle.common.proofs.WordLaws.{byte_and, byte_or, byte_not, byte_mod, byte_shifted}
 use Rattle.device.specs.Configuration.{within}
-use Rattle.configuration.specs.Parts.{lanes, mergeWord}
+use Rattle.configuration.specs.Parts.{lanes, merge_word}
 
 -- which bytes of a word the lanes are, for every place and width
 table : below 4 (λ k. below 5 (λ w. below 4 (λ j. eqb (byte j (lanes k w)) (cond (within k w j) 255 0)))) ≡ true
 unfolding below
 table = refl
 
-pub byte-lanes : (k w j : ℕ) → k < 4 → w < 5 → j < 4 → byte j (lanes k w) ≡ cond (within k w j) 255 0
-byte-lanes k w j hk hw hj = eqb-true _ _ (below_true 4 _ (below_true 5 _ (below_true 4 _ table k hk) w hw) j hj)
+pub byte_lanes : (k w j : ℕ) → k < 4 → w < 5 → j < 4 → byte j (lanes k w) ≡ cond (within k w j) 255 0
+byte_lanes k w j hk hw hj = eqb-true _ _ (below_true 4 _ (below_true 5 _ (below_true 4 _ table k hk) w hw) j hj)
 
 pub lanes_small : (k w : ℕ) → k + w ≤ 4 → lanes k w < 2 ^ 32
 lanes_small k w h =
@@ -30,20 +30,20 @@ lanes_small k w h =
     lt_of_lt_of_le (shl_lt (8 * w) (8 * k) (ones_lt (8 * w))) (pow_mono e)
 
 -- a value shifted to its place in a word
-pub byte-placed : (j k x : ℕ) → k ≤ j → j < 8 → byte j (x * 2 ^ (8 * k) % 2 ^ 64) ≡ byte (j - k) x
-byte-placed j k x l h =
+pub byte_placed : (j k x : ℕ) → k ≤ j → j < 8 → byte j (x * 2 ^ (8 * k) % 2 ^ 64) ≡ byte (j - k) x
+byte_placed j k x l h =
     let e : j - k + k ≡ j = omega arith in
-    byte-mod j 8 (x * 2 ^ (8 * k)) h ∙ rw e at (byte-shifted (j - k) k x)
+    byte_mod j 8 (x * 2 ^ (8 * k)) h ∙ rw e at (byte_shifted (j - k) k x)
 
 -- a word merged under a mask is merged byte by byte
-pub byte-merge : (m old new j : ℕ) → m < 2 ^ 32 → j < 4 → byte j (mergeWord m old new) ≡ merge (byte j m) (byte j old) (byte j new)
-byte-merge m old new j h k =
-    rw (byte_or j (bit_and old (2 ^ 32 - 1 - m)) (bit_and new m), byte-and j old (2 ^ 32 - 1 - m), byte-and j new m, byte-not m h j k)
+pub byte_merge : (m old new j : ℕ) → m < 2 ^ 32 → j < 4 → byte j (merge_word m old new) ≡ merge (byte j m) (byte j old) (byte j new)
+byte_merge m old new j h k =
+    rw (byte_or j (bit_and old (2 ^ 32 - 1 - m)) (bit_and new m), byte_and j old (2 ^ 32 - 1 - m), byte_and j new m, byte_not m h j k)
 
 -- a byte is written where its lane is enabled, and there the value's byte counts
-pub merge-lane : (t : Bool) (m old new b : ℕ) → m < 256 → old < 256 → (t ≡ true → new ≡ b)
+pub merge_lane : (t : Bool) (m old new b : ℕ) → m < 256 → old < 256 → (t ≡ true → new ≡ b)
     → merge (bit_and (cond t 255 0) m) old new ≡ cond t (merge m old b) old
-merge-lane true m old new b hm ho e =
+merge_lane true m old new b hm ho e =
     let all : bit_and 255 m ≡ m = and_comm 255 m ∙ and_mask m 8 ∙ omega arith in
     rw (all, e refl)
-merge-lane false m old new b hm ho e = rw (and_zero_l m) (merge-zero old new ho)
+merge_lane false m old new b hm ho e = rw (and_zero_l m) (merge_zero old new ho)

@@ -1,6 +1,6 @@
 // What a read gives: the aligned word that it lies in, shifted down and cut to its width.
 ghost use Rattle.std.specs.Prelude.{◌≡◌, ◌+◌, ◌-◌, ◌*◌, ◌%◌, ◌≤◌, ◌<◌, ◌^◌};
-ghost use Rattle.device.specs.Configuration.{configurationRead};
+ghost use Rattle.device.specs.Configuration.{configuration_read};
 
 use super::lanes;
 use device::{Peer, Settings};
@@ -33,7 +33,7 @@ fn table_size(vectors: u64) -> u64
 // The aligned word at an offset.
 fn word(s: Settings, p: Peer, at: u64) -> u64
     requires { at % 4 ≡ 0 }
-    ensures { result ≡ configurationRead s p at 4 }
+    ensures { result ≡ configuration_read s p at 4 }
 {
     match at {
         0x00 => 0x4106110A,
@@ -61,7 +61,7 @@ fn word(s: Settings, p: Peer, at: u64) -> u64
 // A read of some bytes of one word, little-endian: an aligned access of 1, 2 or 4 bytes lies in one.
 pub fn read(s: Settings, p: Peer, at: u64, width: u64) -> u64
     requires { at % 4 + width ≤ 4 }
-    ensures is { result ≡ configurationRead s p at width }
+    ensures is { result ≡ configuration_read s p at width }
     ensures fits { result < 2 ^ 32 }
 {
     let place = at % 4;

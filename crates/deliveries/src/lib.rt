@@ -1,10 +1,10 @@
 // Deliveries by value, in ring order, and the rings at every other id.
 ghost use Rattle.std.specs.Prelude.{◌≡◌, ◌<◌, ◌≤◌, length};
 ghost use Rattle.device.specs.Ring;
-ghost use Rattle.device.specs.Ring.{peerId, vector};
-ghost use Rattle.words.specs.Layout.{hubOf};
-ghost use Rattle.gate.specs.RingOutcome.{sentAt, outcomeList, Usable};
-ghost use Rattle.deliveries.specs.Listed.{listed, Lists, ringBut, handedOut};
+ghost use Rattle.device.specs.Ring.{peer_id, vector};
+ghost use Rattle.words.specs.Layout.{hub_of};
+ghost use Rattle.gate.specs.RingOutcome.{sent_at, outcome_list, Usable};
+ghost use Rattle.deliveries.specs.Listed.{listed, Lists, ring_but, handed_out};
 
 use device::{Delivery, PeerId, Vector};
 
@@ -32,8 +32,8 @@ pub fn none() -> Deliveries
 // One ring, and its deliveries: one or none. The id stands at every place of the list, as a byte: one that is delivered to fits.
 pub fn ring_one(hub: &mut [u32], t: PeerId, v: Vector) -> Deliveries
     requires { Usable hub.old }
-    ensures hub { hubOf hub.new ≡ (Ring.ring (hubOf hub.old) t v).hub }
-    ensures deliveries { Lists (hubOf hub.new) result (Ring.ring (hubOf hub.old) t v).deliveries }
+    ensures hub { hub_of hub.new ≡ (Ring.ring (hub_of hub.old) t v).hub }
+    ensures deliveries { Lists (hub_of hub.new) result (Ring.ring (hub_of hub.old) t v).deliveries }
 {
     let delivered = gate::ring(hub, t, v);
     Deliveries {
@@ -46,9 +46,9 @@ pub fn ring_one(hub: &mut [u32], t: PeerId, v: Vector) -> Deliveries
 // One turn of the rings at every other id: the sender is not rung.
 fn ring_other(hub: &mut [u32], i: u16, who: u64) -> bool
     requires usable { Usable hub.old }
-    requires known { i < (hubOf hub.old).settings.peers }
-    ensures hub { hubOf hub.new ≡ (ringBut who (hubOf hub.old) i).hub }
-    ensures deliveries { outcomeList (hubOf hub.old) (peerId i) (vector 0) result ≡ (ringBut who (hubOf hub.old) i).deliveries }
+    requires known { i < (hub_of hub.old).settings.peers }
+    ensures hub { hub_of hub.new ≡ (ring_but who (hub_of hub.old) i).hub }
+    ensures deliveries { outcome_list (hub_of hub.old) (peer_id i) (vector 0) result ≡ (ring_but who (hub_of hub.old) i).deliveries }
 {
     if i as u64 == who {
         return false;
@@ -59,8 +59,8 @@ fn ring_other(hub: &mut [u32], i: u16, who: u64) -> bool
 // Vector 0 rung at every other id, ascending.
 pub fn ring_others(hub: &mut [u32], who: u64) -> Deliveries
     requires { Usable hub.old }
-    ensures hub { hubOf hub.new ≡ (Ring.ringOthers who (hubOf hub.old)).hub }
-    ensures deliveries { Lists (hubOf hub.new) result (Ring.ringOthers who (hubOf hub.old)).deliveries }
+    ensures hub { hub_of hub.new ≡ (Ring.ring_others who (hub_of hub.old)).hub }
+    ensures deliveries { Lists (hub_of hub.new) result (Ring.ring_others who (hub_of hub.old)).deliveries }
 {
     let peers = words::settings(hub).peers;
     let mut targets = [0; device::MAX_PEERS];
@@ -82,8 +82,8 @@ pub fn ring_others(hub: &mut [u32], who: u64) -> Deliveries
 
 // The record of one delivery, made from the target's entry. The hub's numbers of peers and vectors are in hand.
 fn sent_in(hub: &[u32], n: usize, m: usize, target: u8, v: Vector) -> Delivery
-    requires { (n ≡ (hubOf hub.now).settings.peers) × (m ≡ (hubOf hub.now).settings.vectors) }
-    ensures { result ≡ sentAt (hubOf hub.now) v target }
+    requires { (n ≡ (hub_of hub.now).settings.peers) × (m ≡ (hub_of hub.now).settings.vectors) }
+    ensures { result ≡ sent_at (hub_of hub.now) v target }
 {
     let e = words::entry_at(hub, n, m, target as usize, v.0 as usize);
     let address = e.low as u64 + 4294967296 * (e.high as u64);
@@ -96,7 +96,7 @@ fn sent_in(hub: &[u32], n: usize, m: usize, target: u8, v: Vector) -> Delivery
 }
 
 pub fn sent(hub: &[u32], target: u8, v: Vector) -> Delivery
-    ensures { result ≡ sentAt (hubOf hub.now) v target }
+    ensures { result ≡ sent_at (hub_of hub.now) v target }
 {
     let counts = words::counts_of(hub);
     sent_in(hub, counts.peers, counts.vectors, target, v)
@@ -105,7 +105,7 @@ pub fn sent(hub: &[u32], target: u8, v: Vector) -> Delivery
 // The deliveries written over the lent table from the front, and their count. The later records stay.
 pub fn hand_out(hub: &[u32], table: &mut [Delivery], list: Deliveries) -> usize
     requires { (list.count ≤ length list.targets) × (list.count ≤ length table.old) }
-    ensures { (table.new ≡ handedOut (listed (hubOf hub.now) list) table.old) × (result ≡ list.count) }
+    ensures { (table.new ≡ handed_out (listed (hub_of hub.now) list) table.old) × (result ≡ list.count) }
 {
     let n = list.count;
     let v = list.vector;

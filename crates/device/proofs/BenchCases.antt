@@ -4,29 +4,29 @@ use Prim.Native.Nat.{ℕ}
 use mathlib.Core.List.{List, [], ◌∷◌, ◌++◌}
 use mathlib.Core.Path.{◌≡◌, refl}
 use lib.ListN.{take, drop, replicate}
-use Rattle.common.specs.Bytes.{bytes, number, setByte}
+use Rattle.common.specs.Bytes.{bytes, number, set_byte}
 use Rattle.common.specs.Tests.{first, every, below}
 use Rattle.device.specs.declared.Delivery.{Delivery}
 use Rattle.device.specs.declared.Settings.{Settings}
 use Rattle.device.specs.Call.{Act, Call, call}
-use Rattle.device.specs.Call.Act.{connect, configurationRead, configurationWrite, registerRead, registerWrite, msixWrite, store}
+use Rattle.device.specs.Call.Act.{connect, configuration_read, configuration_write, register_read, register_write, msix_write, store}
 use Rattle.device.specs.Configuration
-use Rattle.device.specs.Configuration.{fields, fieldByte, configurationByte, masks, maskIn, maskAt, mask_of, withByte, writtenByte, configurationWritten}
-use Rattle.device.specs.Effect.{changes, announces, registerStored, effect, rungVector, rungPeer}
+use Rattle.device.specs.Configuration.{fields, field_byte, configuration_byte, masks, mask_in, mask_at, mask_of, with_byte, written_byte, configuration_written}
+use Rattle.device.specs.Effect.{changes, announces, register_stored, effect, rung_vector, rung_peer}
 use Rattle.device.specs.History
-use Rattle.device.specs.Msix.{in_table, withWord, msixWritten}
-use Rattle.device.specs.Refusal.{lentTo, accessOf, wrongRegion, shortTable, missing, present}
-use Rattle.device.specs.Refusal.{wrongWidth, misaligned, outside, forbidden, isConnected, refusal}
+use Rattle.device.specs.Msix.{in_table, with_word, msix_written}
+use Rattle.device.specs.Refusal.{lent_to, access_of, wrong_region, short_table, missing, present}
+use Rattle.device.specs.Refusal.{wrong_width, misaligned, outside, forbidden, is_connected, refusal}
 use Rattle.device.specs.Registers
-use Rattle.device.specs.Registers.{registerAt, memoryOn, registerValue}
-use Rattle.device.specs.Ring.{gateOf, opens, target, deliveryOf, afterDelivery, ringAt, ring, ringFrom}
+use Rattle.device.specs.Registers.{register_at, memory_on, register_value}
+use Rattle.device.specs.Ring.{gate_of, opens, target, delivery_of, after_delivery, ring_at, ring, ring_from}
 use Rattle.device.specs.Ring
-use Rattle.device.specs.Sections.{outputs, sections, sectionIn, sectionOf, somewhere, mayStore}
-use Rattle.device.specs.SetUp.{total, accepted, freshHub}
-use Rattle.device.specs.Sizes.{maxPeers, maxVectors}
-use Rattle.device.specs.Sound.{peerFixed, peerReset, entryFixed, entryReset, peerSound, entrySound, slotSound, sound}
-use Rattle.device.specs.Step.{Outcome, run, runAll, stepBy, step}
-use Rattle.device.specs.World.{World, world, zeroSlot, resetSlot}
+use Rattle.device.specs.Sections.{outputs, sections, section_in, section_of, somewhere, may_store}
+use Rattle.device.specs.SetUp.{total, accepted, fresh_hub}
+use Rattle.device.specs.Sizes.{max_peers, max_vectors}
+use Rattle.device.specs.Sound.{peer_fixed, peer_reset, entry_fixed, entry_reset, peer_sound, entry_sound, slot_sound, sound}
+use Rattle.device.specs.Step.{Outcome, run, run_all, step_by, step}
+use Rattle.device.specs.World.{World, world, zero_slot, reset_slot}
 
 -- what the meaning gives, and what the rules say
 pub record Case : Type 0 where
@@ -37,8 +37,8 @@ abbrev pub case : List ℕ → List ℕ → Case
 case gives says = record { gives = gives; says = says }
 
 -- a hub of n peers with v vectors, sections of s, r and o bytes and protocol 0001h, right after set-up
-abbrev setUp : ℕ → ℕ → ℕ → ℕ → ℕ → World
-setUp n v s r o =
+abbrev set_up : ℕ → ℕ → ℕ → ℕ → ℕ → World
+set_up n v s r o =
     let numbers : Settings = record {
       peers = n;
       vectors = v;
@@ -50,7 +50,7 @@ setUp n v s r o =
       vendor = 0;
       subsystem = 0;
     } in
-    world (freshHub numbers) (replicate (total numbers) 0)
+    world (fresh_hub numbers) (replicate (total numbers) 0)
 
 -- a call of a peer, and the world after it
 abbrev does : World → ℕ → Act → Outcome
@@ -65,11 +65,11 @@ answer w who act = (does w who act).number ∷ (does w who act).value ∷ []
 
 -- Fresh peer, N=4, V=4, protocol 0001h
 abbrev fresh : World
-fresh = after (setUp 4 4 4096 0 0) 0 connect
+fresh = after (set_up 4 4 4096 0 0) 0 connect
 
 -- S=4096, R=0, O=4096, N=2, both connected
 abbrev pair : World
-pair = after (after (setUp 2 1 4096 0 4096) 0 connect) 1 connect
+pair = after (after (set_up 2 1 4096 0 4096) 0 connect) 1 connect
 
 -- a store of so many zero bytes
 abbrev storing : ℕ → ℕ → Act
@@ -78,25 +78,25 @@ storing offset n = store offset (replicate n 0)
 pub cases : List Case
 cases =
     -- 4 bytes at 00h give 4106110Ah
-    case (answer fresh 0 (configurationRead 0x00 4)) (0 ∷ 0x4106110A ∷ [])
+    case (answer fresh 0 (configuration_read 0x00 4)) (0 ∷ 0x4106110A ∷ [])
     -- at 08h FF000100h
-    ∷ case (answer fresh 0 (configurationRead 0x08 4)) (0 ∷ 0xFF000100 ∷ [])
+    ∷ case (answer fresh 0 (configuration_read 0x08 4)) (0 ∷ 0xFF000100 ∷ [])
     -- at 40h 00206009h
-    ∷ case (answer fresh 0 (configurationRead 0x40 4)) (0 ∷ 0x00206009 ∷ [])
+    ∷ case (answer fresh 0 (configuration_read 0x40 4)) (0 ∷ 0x00206009 ∷ [])
     -- at 60h 00030011h
-    ∷ case (answer fresh 0 (configurationRead 0x60 4)) (0 ∷ 0x00030011 ∷ [])
+    ∷ case (answer fresh 0 (configuration_read 0x60 4)) (0 ∷ 0x00030011 ∷ [])
     -- Write FFFFh at 04h: 4 bytes at 04h read 00100406h
-    ∷ case (answer (after fresh 0 (configurationWrite 0x04 2 0xFFFF)) 0 (configurationRead 0x04 4)) (0 ∷ 0x00100406 ∷ [])
+    ∷ case (answer (after fresh 0 (configuration_write 0x04 2 0xFFFF)) 0 (configuration_read 0x04 4)) (0 ∷ 0x00100406 ∷ [])
     -- Write FFFFFFFFh at 10h: reads FFFFF000h
-    ∷ case (answer (after fresh 0 (configurationWrite 0x10 4 0xFFFFFFFF)) 0 (configurationRead 0x10 4)) (0 ∷ 0xFFFFF000 ∷ [])
+    ∷ case (answer (after fresh 0 (configuration_write 0x10 4 0xFFFFFFFF)) 0 (configuration_read 0x10 4)) (0 ∷ 0xFFFFF000 ∷ [])
     -- Write FFFFFFFFh at 60h: reads C0030011h
-    ∷ case (answer (after fresh 0 (configurationWrite 0x60 4 0xFFFFFFFF)) 0 (configurationRead 0x60 4)) (0 ∷ 0xC0030011 ∷ [])
+    ∷ case (answer (after fresh 0 (configuration_write 0x60 4 0xFFFFFFFF)) 0 (configuration_read 0x60 4)) (0 ∷ 0xC0030011 ∷ [])
     -- Register read at 04h with Command 0: FFFFFFFFh
-    ∷ case (answer fresh 0 (registerRead 0x04 4)) (0 ∷ 0xFFFFFFFF ∷ [])
+    ∷ case (answer fresh 0 (register_read 0x04 4)) (0 ∷ 0xFFFFFFFF ∷ [])
     -- with 0002h: 4
-    ∷ case (answer (after fresh 0 (configurationWrite 0x04 2 0x0002)) 0 (registerRead 0x04 4)) (0 ∷ 4 ∷ [])
+    ∷ case (answer (after fresh 0 (configuration_write 0x04 2 0x0002)) 0 (register_read 0x04 4)) (0 ∷ 4 ∷ [])
     -- Doorbell 00030001h means vector 1 at id 3
-    ∷ case ((rungVector 0x00030001).0 ∷ (rungPeer 0x00030001).0 ∷ []) (1 ∷ 3 ∷ [])
+    ∷ case ((rung_vector 0x00030001).0 ∷ (rung_peer 0x00030001).0 ∷ []) (1 ∷ 3 ∷ [])
     -- store by 1 at 8192, length 4096: taken
     ∷ case (answer pair 1 (storing 8192 4096)) (0 ∷ 0 ∷ [])
     -- The same by 0: 9
@@ -114,11 +114,11 @@ Right (c ∷ cs) = (c.gives ≡ c.says) × Right cs
 
 -- each case by computation
 pub bench : Right cases
-unfolding cases bytes number setByte first every below Configuration.configurationRead fields fieldByte configurationByte masks
-    maskIn maskAt mask_of withByte writtenByte configurationWritten effect lentTo accessOf wrongRegion shortTable missing present
-    wrongWidth misaligned outside forbidden isConnected refusal Registers.registerRead registerAt memoryOn registerValue outputs
-    sections sectionIn sectionOf somewhere mayStore total accepted freshHub maxPeers maxVectors peerFixed peerReset entryFixed
-    entryReset peerSound entrySound slotSound sound run runAll stepBy step zeroSlot resetSlot
+unfolding cases bytes number set_byte first every below Configuration.configuration_read fields field_byte configuration_byte masks
+    mask_in mask_at mask_of with_byte written_byte configuration_written effect lent_to access_of wrong_region short_table missing present
+    wrong_width misaligned outside forbidden is_connected refusal Registers.register_read register_at memory_on register_value outputs
+    sections section_in section_of somewhere may_store total accepted fresh_hub max_peers max_vectors peer_fixed peer_reset entry_fixed
+    entry_reset peer_sound entry_sound slot_sound sound run run_all step_by step zero_slot reset_slot
 bench =
     (refl, (refl, (refl, (refl, (refl, (refl, (refl, (refl, (refl, (refl, (refl, (refl, (refl, (refl, tt))))))))))))))
 
@@ -126,25 +126,25 @@ bench =
 abbrev listens : ℕ → ℕ → List Call
 listens who payload =
     call who connect
-    ∷ call who (configurationWrite 0x04 2 0x0006)
-    ∷ call who (configurationWrite 0x63 1 0x80)
-    ∷ call who (msixWrite 0x00 4 0xFEE00000)
-    ∷ call who (msixWrite 0x08 4 payload)
-    ∷ call who (msixWrite 0x0C 4 0)
-    ∷ call who (registerWrite 4 0x08 4 1)
+    ∷ call who (configuration_write 0x04 2 0x0006)
+    ∷ call who (configuration_write 0x63 1 0x80)
+    ∷ call who (msix_write 0x00 4 0xFEE00000)
+    ∷ call who (msix_write 0x08 4 payload)
+    ∷ call who (msix_write 0x0C 4 0)
+    ∷ call who (register_write 4 0x08 4 1)
     ∷ []
 
 -- N=4, V=2; 0, 1 and 3 connected, data 40h and 43h, peer 3 alone one-shot; peer 1 has Command bit 1 on
 abbrev four : World
 four =
-    History.after (setUp 4 2 4096 0 0)
+    History.after (set_up 4 2 4096 0 0)
     (listens 0 0x40
     ++ (listens 3 0x43
-    ++ (call 3 (configurationWrite 0x43 1 0x01) ∷ call 1 connect ∷ call 1 (configurationWrite 0x04 2 0x0002) ∷ [])))
+    ++ (call 3 (configuration_write 0x43 1 0x01) ∷ call 1 connect ∷ call 1 (configuration_write 0x04 2 0x0002) ∷ [])))
 
 -- Peer 1 stores State 5
 abbrev five : Act
-five = registerWrite 4 0x10 4 5
+five = register_write 4 0x10 4 5
 
 -- the parts of each delivery: target, vector, address, data
 abbrev pub parts : List Delivery → List ℕ
@@ -159,16 +159,16 @@ list first second =
     -- region bytes 4-7 are 05 00 00 00
     ∷ case (take 4 (drop 4 first.world.region)) (5 ∷ 0 ∷ 0 ∷ 0 ∷ [])
     -- peer 3's Interrupt Control is 0
-    ∷ case (answer first.world 3 (registerRead 0x08 4)) (0 ∷ 0 ∷ [])
+    ∷ case (answer first.world 3 (register_read 0x08 4)) (0 ∷ 0 ∷ [])
     -- the second store of 5 delivers nothing (C-11)
     ∷ case (second.number ∷ parts second.deliveries) (0 ∷ [])
     ∷ []
 
-pub whole-list : Right (list (does four 1 five) (does (after four 1 five) 1 five))
-unfolding bytes number setByte first every below fields fieldByte configurationByte masks maskIn maskAt mask_of withByte
-    writtenByte configurationWritten changes announces registerStored effect History.after in_table withWord msixWritten lentTo
-    accessOf wrongRegion shortTable missing present wrongWidth misaligned outside forbidden isConnected refusal
-    Registers.registerRead registerAt memoryOn registerValue gateOf opens target deliveryOf afterDelivery ringAt ring ringFrom
-    Ring.ringOthers total accepted freshHub maxPeers maxVectors peerFixed peerReset entryFixed entryReset peerSound entrySound
-    slotSound sound run runAll stepBy step zeroSlot resetSlot
-whole-list = (refl, (refl, (refl, (refl, tt))))
+pub whole_list : Right (list (does four 1 five) (does (after four 1 five) 1 five))
+unfolding bytes number set_byte first every below fields field_byte configuration_byte masks mask_in mask_at mask_of with_byte
+    written_byte configuration_written changes announces register_stored effect History.after in_table with_word msix_written lent_to
+    access_of wrong_region short_table missing present wrong_width misaligned outside forbidden is_connected refusal
+    Registers.register_read register_at memory_on register_value gate_of opens target delivery_of after_delivery ring_at ring ring_from
+    Ring.ring_others total accepted fresh_hub max_peers max_vectors peer_fixed peer_reset entry_fixed entry_reset peer_sound entry_sound
+    slot_sound sound run run_all step_by step zero_slot reset_slot
+whole_list = (refl, (refl, (refl, (refl, tt))))

@@ -10,19 +10,19 @@ use Rattle.common.specs.Tests.{first, every, below}
 use Rattle.device.specs.declared.Peer.{Peer}
 use Rattle.device.specs.declared.Settings.{Settings}
 use Rattle.device.specs.Call.{Act, call}
-use Rattle.device.specs.Call.Act.{disconnect, reset, registerWrite}
-use Rattle.device.specs.Configuration.{masks, maskIn, maskAt, mask_of}
-use Rattle.device.specs.Effect.{changes, announces, registerStored, effect}
-use Rattle.device.specs.Refusal.{lentTo, accessOf, wrongRegion, shortTable, missing, present}
-use Rattle.device.specs.Refusal.{wrongWidth, misaligned, outside, forbidden, isConnected, refusal}
-use Rattle.device.specs.Registers.{registerAt, memoryOn}
-use Rattle.device.specs.Ring.{gateOf, opens, target, deliveryOf, afterDelivery, ringAt, ring, ringFrom}
+use Rattle.device.specs.Call.Act.{disconnect, reset, register_write}
+use Rattle.device.specs.Configuration.{masks, mask_in, mask_at, mask_of}
+use Rattle.device.specs.Effect.{changes, announces, register_stored, effect}
+use Rattle.device.specs.Refusal.{lent_to, access_of, wrong_region, short_table, missing, present}
+use Rattle.device.specs.Refusal.{wrong_width, misaligned, outside, forbidden, is_connected, refusal}
+use Rattle.device.specs.Registers.{register_at, memory_on}
+use Rattle.device.specs.Ring.{gate_of, opens, target, delivery_of, after_delivery, ring_at, ring, ring_from}
 use Rattle.device.specs.Ring
 use Rattle.device.specs.SetUp.{total, accepted}
-use Rattle.device.specs.Sizes.{maxPeers, maxVectors}
-use Rattle.device.specs.Sound.{peerFixed, peerReset, entryFixed, entryReset, peerSound, entrySound, slotSound, sound}
-use Rattle.device.specs.Step.{run, runAll, stepBy, step}
-use Rattle.device.specs.World.{World, Slot, zeroSlot, resetSlot}
+use Rattle.device.specs.Sizes.{max_peers, max_vectors}
+use Rattle.device.specs.Sound.{peer_fixed, peer_reset, entry_fixed, entry_reset, peer_sound, entry_sound, slot_sound, sound}
+use Rattle.device.specs.Step.{run, run_all, step_by, step}
+use Rattle.device.specs.World.{World, Slot, zero_slot, reset_slot}
 use Rattle.device.proofs.BenchCases.{Case, case, parts, Right}
 
 -- two peers with one vector, and no section but the State Table
@@ -48,7 +48,7 @@ abbrev pub gives : World → Act → List ℕ
 gives w act = parts (step w (call 1 act)).deliveries ++ take 4 (drop 4 (step w (call 1 act)).world.region)
 
 abbrev five : Act
-five = registerWrite 2 0x10 4 5
+five = register_write 2 0x10 4 5
 
 -- the delivery to peer 0, or none, and then the entry
 abbrev rings : List ℕ → List ℕ
@@ -76,10 +76,10 @@ cases =
     ∷ case (gives (holding 5 0) (disconnect 2)) (rings (0 ∷ 0 ∷ 0 ∷ 0 ∷ []))
     ∷ []
 
-pub changed-cases : Right cases
-unfolding cases bytes first every below masks maskIn maskAt mask_of changes announces registerStored effect lentTo accessOf
-    wrongRegion shortTable missing present wrongWidth misaligned outside forbidden isConnected refusal registerAt memoryOn
-    gateOf opens target deliveryOf afterDelivery ringAt ring ringFrom Ring.ringOthers total accepted maxPeers maxVectors
-    peerFixed peerReset entryFixed entryReset peerSound entrySound slotSound sound run runAll stepBy step zeroSlot resetSlot
-changed-cases =
+pub changed_cases : Right cases
+unfolding cases bytes first every below masks mask_in mask_at mask_of changes announces register_stored effect lent_to access_of
+    wrong_region short_table missing present wrong_width misaligned outside forbidden is_connected refusal register_at memory_on
+    gate_of opens target delivery_of after_delivery ring_at ring ring_from Ring.ring_others total accepted max_peers max_vectors
+    peer_fixed peer_reset entry_fixed entry_reset peer_sound entry_sound slot_sound sound run run_all step_by step zero_slot reset_slot
+changed_cases =
     (refl, (refl, (refl, (refl, (refl, (refl, (refl, (refl, (refl, (refl, (refl, (refl, (refl, tt)))))))))))))

@@ -14,21 +14,21 @@ use lib.Pow.{shr-shr}
 use lib.Seq.{ext_get_or}
 use Rattle.common.specs.Bytes.{byte, only, merge}
 use Rattle.common.specs.Lists.{tabulate}
-use Rattle.common.proofs.ByteLaws.{byte-suc}
-use Rattle.common.proofs.ListLaws.{length-tabulate, get_d_tabulate, tabulate-ext, set-tabulate}
+use Rattle.common.proofs.ByteLaws.{byte_suc}
+use Rattle.common.proofs.ListLaws.{length_tabulate, get_d_tabulate, tabulate_ext, set_tabulate}
 use Rattle.common.proofs.TestLaws.{and_right, every_true, below_true, alike}
 use Rattle.device.specs.declared.Entry.{Entry}
 use Rattle.device.specs.declared.Peer.{Peer}
 use Rattle.device.specs.declared.Settings.{Settings}
-use Rattle.device.specs.Configuration.{fields, fieldByte, configurationByte, configurationRead, masks, maskIn}
-use Rattle.device.specs.Configuration.{maskAt, mask_of, withByte, writtenByte, configurationWritten}
-use Rattle.device.specs.Msix.{addressMask, wordMask, controlMask, withWord}
-use Rattle.device.specs.Reset.{resetEntry}
-use Rattle.device.specs.Sound.{peerReset, entryFixed, entryReset, peerSound, entrySound, slotSound}
-use Rattle.device.specs.World.{Slot, zeroEntry, resetSlot, entry_at}
-use Rattle.device.proofs.ConfigurationLaws.{byte_small, written-reads}
-use Rattle.device.proofs.FixedLaws.{Fixed, written-fixed}
-use Rattle.device.proofs.SoundLaws.{absent-reset}
+use Rattle.device.specs.Configuration.{fields, field_byte, configuration_byte, configuration_read, masks, mask_in}
+use Rattle.device.specs.Configuration.{mask_at, mask_of, with_byte, written_byte, configuration_written}
+use Rattle.device.specs.Msix.{address_mask, word_mask, control_mask, with_word}
+use Rattle.device.specs.Reset.{reset_entry}
+use Rattle.device.specs.Sound.{peer_reset, entry_fixed, entry_reset, peer_sound, entry_sound, slot_sound}
+use Rattle.device.specs.World.{Slot, zero_entry, reset_slot, entry_at}
+use Rattle.device.proofs.ConfigurationLaws.{byte_small, written_reads}
+use Rattle.device.proofs.FixedLaws.{Fixed, written_fixed}
+use Rattle.device.proofs.SoundLaws.{absent_reset}
 
 -- Numbers under masks.
 
@@ -56,7 +56,7 @@ word_same : (m x y : ℕ) → m < 2 ^ 32 → only m x ≡ true → only m y ≡ 
 word_same m x y h e f b0 b1 b2 b3 =
     spelled x (omega (arith, bounded m x e)) ∙ rw (b0, b1, b2, b3) (sym (spelled y (omega (arith, bounded m y f))))
 
-pub whole_word : (x : ℕ) → x < 2 ^ 32 → bit_and x wordMask ≡ x
+pub whole_word : (x : ℕ) → x < 2 ^ 32 → bit_and x word_mask ≡ x
 whole_word x h = and_mask x 32 ∙ omega arith
 
 -- Configuration space.
@@ -77,77 +77,77 @@ opened interrupt state =
 
 module _ (s : Settings) (q : Peer) where
   -- a read of some bytes holds each of them
-  read_byte : (w at o : ℕ) → o < w → byte o (configurationRead s q at w) ≡ configurationByte s q (at + o)
-  unfolding configurationRead
+  read_byte : (w at o : ℕ) → o < w → byte o (configuration_read s q at w) ≡ configuration_byte s q (at + o)
+  unfolding configuration_read
   read_byte zero at o h = absurd (omega arith)
   read_byte (suc w) at zero h = rw add-zero (omega (arith, byte_small s q at))
   read_byte (suc w) at (suc o) h =
-      let x : ℕ = configurationByte s q at + 256 * configurationRead s q (suc at) w in
-      let rest : x / 256 ≡ configurationRead s q (suc at) w = omega (arith, byte_small s q at) in
+      let x : ℕ = configuration_byte s q at + 256 * configuration_read s q (suc at) w in
+      let rest : x / 256 ≡ configuration_read s q (suc at) w = omega (arith, byte_small s q at) in
       let next : suc at + o ≡ at + suc o = omega arith in
-      byte-suc o x ∙ rw (rest, ← next) (read_byte w (suc at) o (omega arith))
+      byte_suc o x ∙ rw (rest, ← next) (read_byte w (suc at) o (omega arith))
 
   -- the whole of configuration space written as the wanted one reads
   abbrev pub copied : Peer → Peer
-  copied p = configurationWritten s p 0 256 (configurationRead s q 0 256)
+  copied p = configuration_written s p 0 256 (configuration_read s q 0 256)
 
-  copied-reads : (p : Peer) (o : ℕ) → o < 256
-      → configurationByte s (copied p) o ≡ merge (maskAt s o) (configurationByte s p o) (configurationByte s q o)
-  copied-reads p o h =
+  copied_reads : (p : Peer) (o : ℕ) → o < 256
+      → configuration_byte s (copied p) o ≡ merge (mask_at s o) (configuration_byte s p o) (configuration_byte s q o)
+  copied_reads p o h =
       let d : o - 0 ≡ o = omega arith in
       let z : 0 + o ≡ o = omega arith in
-      written-reads s p 0 256 (configurationRead s q 0 256) o
+      written_reads s p 0 256 (configuration_read s q 0 256) o
       ∙ rw (le-leb 0 o (omega arith), lt-ltb o 256 h, d, read_byte 256 0 o h, z)
 
   -- what is no part of configuration space
   abbrev beside : Peer → ℕ × ℕ × ℕ
   beside p = (p.connected, p.interrupt, p.state)
 
-  written-beside : (p : Peer) (at w x : ℕ) → beside (configurationWritten s p at w x) ≡ beside p
-  unfolding configurationWritten writtenByte withByte
-  written-beside p at zero x = refl
-  written-beside p at (suc w) x = written-beside (writtenByte s p at (x % 256)) (suc at) w (x / 256)
+  written_beside : (p : Peer) (at w x : ℕ) → beside (configuration_written s p at w x) ≡ beside p
+  unfolding configuration_written written_byte with_byte
+  written_beside p at zero x = refl
+  written_beside p at (suc w) x = written_beside (written_byte s p at (x % 256)) (suc at) w (x / 256)
 
   -- written over those registers, the registers are the wanted ones: every byte of the wanted ones keeps to its mask
   pub copied_all : q.connected ≡ 1 → Fixed s q → copied (opened q.interrupt q.state) ≡ q
-  unfolding configurationByte fieldByte fields mask_of maskAt masks maskIn
+  unfolding configuration_byte field_byte fields mask_of mask_at masks mask_in
   copied_all c f =
       let p : Peer = opened q.interrupt q.state in
       let r : Peer = copied p in
       let g : Fixed s r =
-      written-fixed s p 0 256 (configurationRead s q 0 256)
+      written_fixed s p 0 256 (configuration_read s q 0 256)
       (record { command = refl; bar0 = refl; bar1 = refl; privileged = refl; message = refl; interrupt = f.interrupt }) in
-      let b04 : byte 0 r.command ≡ byte 0 q.command = copied-reads p 0x04 (omega arith) ∙ same_byte 0 (mask_of s 0x04 2) q.command f.command in
-      let b05 : byte 1 r.command ≡ byte 1 q.command = copied-reads p 0x05 (omega arith) ∙ same_byte 1 (mask_of s 0x04 2) q.command f.command in
+      let b04 : byte 0 r.command ≡ byte 0 q.command = copied_reads p 0x04 (omega arith) ∙ same_byte 0 (mask_of s 0x04 2) q.command f.command in
+      let b05 : byte 1 r.command ≡ byte 1 q.command = copied_reads p 0x05 (omega arith) ∙ same_byte 1 (mask_of s 0x04 2) q.command f.command in
       let command : r.command ≡ q.command = omega (
         arith,
         bounded (mask_of s 0x04 2) r.command g.command,
         bounded (mask_of s 0x04 2) q.command f.command,
       ) in
-      let b10 : byte 0 r.bar0 ≡ byte 0 q.bar0 = copied-reads p 0x10 (omega arith) ∙ same_byte 0 (mask_of s 0x10 4) q.bar0 f.bar0 in
-      let b11 : byte 1 r.bar0 ≡ byte 1 q.bar0 = copied-reads p 0x11 (omega arith) ∙ same_byte 1 (mask_of s 0x10 4) q.bar0 f.bar0 in
-      let b12 : byte 2 r.bar0 ≡ byte 2 q.bar0 = copied-reads p 0x12 (omega arith) ∙ same_byte 2 (mask_of s 0x10 4) q.bar0 f.bar0 in
-      let b13 : byte 3 r.bar0 ≡ byte 3 q.bar0 = copied-reads p 0x13 (omega arith) ∙ same_byte 3 (mask_of s 0x10 4) q.bar0 f.bar0 in
+      let b10 : byte 0 r.bar0 ≡ byte 0 q.bar0 = copied_reads p 0x10 (omega arith) ∙ same_byte 0 (mask_of s 0x10 4) q.bar0 f.bar0 in
+      let b11 : byte 1 r.bar0 ≡ byte 1 q.bar0 = copied_reads p 0x11 (omega arith) ∙ same_byte 1 (mask_of s 0x10 4) q.bar0 f.bar0 in
+      let b12 : byte 2 r.bar0 ≡ byte 2 q.bar0 = copied_reads p 0x12 (omega arith) ∙ same_byte 2 (mask_of s 0x10 4) q.bar0 f.bar0 in
+      let b13 : byte 3 r.bar0 ≡ byte 3 q.bar0 = copied_reads p 0x13 (omega arith) ∙ same_byte 3 (mask_of s 0x10 4) q.bar0 f.bar0 in
       let bar0 : r.bar0 ≡ q.bar0 = word_same (mask_of s 0x10 4) r.bar0 q.bar0 (omega arith) g.bar0 f.bar0 b10 b11 b12 b13 in
-      let b14 : byte 0 r.bar1 ≡ byte 0 q.bar1 = copied-reads p 0x14 (omega arith) ∙ same_byte 0 (mask_of s 0x14 4) q.bar1 f.bar1 in
-      let b15 : byte 1 r.bar1 ≡ byte 1 q.bar1 = copied-reads p 0x15 (omega arith) ∙ same_byte 1 (mask_of s 0x14 4) q.bar1 f.bar1 in
-      let b16 : byte 2 r.bar1 ≡ byte 2 q.bar1 = copied-reads p 0x16 (omega arith) ∙ same_byte 2 (mask_of s 0x14 4) q.bar1 f.bar1 in
-      let b17 : byte 3 r.bar1 ≡ byte 3 q.bar1 = copied-reads p 0x17 (omega arith) ∙ same_byte 3 (mask_of s 0x14 4) q.bar1 f.bar1 in
+      let b14 : byte 0 r.bar1 ≡ byte 0 q.bar1 = copied_reads p 0x14 (omega arith) ∙ same_byte 0 (mask_of s 0x14 4) q.bar1 f.bar1 in
+      let b15 : byte 1 r.bar1 ≡ byte 1 q.bar1 = copied_reads p 0x15 (omega arith) ∙ same_byte 1 (mask_of s 0x14 4) q.bar1 f.bar1 in
+      let b16 : byte 2 r.bar1 ≡ byte 2 q.bar1 = copied_reads p 0x16 (omega arith) ∙ same_byte 2 (mask_of s 0x14 4) q.bar1 f.bar1 in
+      let b17 : byte 3 r.bar1 ≡ byte 3 q.bar1 = copied_reads p 0x17 (omega arith) ∙ same_byte 3 (mask_of s 0x14 4) q.bar1 f.bar1 in
       let bar1 : r.bar1 ≡ q.bar1 = word_same (mask_of s 0x14 4) r.bar1 q.bar1 (omega arith) g.bar1 f.bar1 b14 b15 b16 b17 in
-      let b43 : byte 0 r.privileged ≡ byte 0 q.privileged = copied-reads p 0x43 (omega arith)
+      let b43 : byte 0 r.privileged ≡ byte 0 q.privileged = copied_reads p 0x43 (omega arith)
       ∙ same_byte 0 (mask_of s 0x43 1) q.privileged f.privileged in
       let privileged : r.privileged ≡ q.privileged = omega (
         arith,
         bounded (mask_of s 0x43 1) r.privileged g.privileged,
         bounded (mask_of s 0x43 1) q.privileged f.privileged,
       ) in
-      let b63 : byte 0 r.message ≡ byte 0 q.message = copied-reads p 0x63 (omega arith) ∙ same_byte 0 (mask_of s 0x63 1) q.message f.message in
+      let b63 : byte 0 r.message ≡ byte 0 q.message = copied_reads p 0x63 (omega arith) ∙ same_byte 0 (mask_of s 0x63 1) q.message f.message in
       let message : r.message ≡ q.message = omega (
         arith,
         bounded (mask_of s 0x63 1) r.message g.message,
         bounded (mask_of s 0x63 1) q.message f.message,
       ) in
-      let others : beside r ≡ beside p = written-beside p 0 256 (configurationRead s q 0 256) in
+      let others : beside r ≡ beside p = written_beside p 0 256 (configuration_read s q 0 256) in
       λ i. record {
         connected = (ap (λ (x : ℕ × ℕ × ℕ). x.0) others ∙ sym c) i;
         command = command i;
@@ -160,22 +160,22 @@ module _ (s : Settings) (q : Peer) where
       }
 
 -- An entry, word by word.
-pub entry-copied : (from e : Entry) → entryFixed e ≡ true → e.high < 2 ^ 32 → e.payload < 2 ^ 32
-    → withWord (withWord (withWord (withWord from 0 e.low) 1 e.high) 2 e.payload) 3 e.control ≡ e
-unfolding withWord entryFixed
-entry-copied from e f h k =
+pub entry_copied : (from e : Entry) → entry_fixed e ≡ true → e.high < 2 ^ 32 → e.payload < 2 ^ 32
+    → with_word (with_word (with_word (with_word from 0 e.low) 1 e.high) 2 e.payload) 3 e.control ≡ e
+unfolding with_word entry_fixed
+entry_copied from e f h k =
     λ i. record {
-      low = eqb-true (bit_and e.low addressMask) e.low (every_true _ f 0) i;
+      low = eqb-true (bit_and e.low address_mask) e.low (every_true _ f 0) i;
       high = whole_word e.high h i;
       payload = whole_word e.payload k i;
-      control = eqb-true (bit_and e.control controlMask) e.control (every_true _ f 1) i;
+      control = eqb-true (bit_and e.control control_mask) e.control (every_true _ f 1) i;
     }
 
 -- A slot that is not connected.
 
-entry-reset : (e : Entry) → entryReset e ≡ true → e ≡ resetEntry
-unfolding entryReset
-entry-reset e r =
+entry_reset_lem : (e : Entry) → entry_reset e ≡ true → e ≡ reset_entry
+unfolding entry_reset
+entry_reset_lem e r =
     λ i. record {
       low = eqb-true e.low 0 (every_true _ r 0) i;
       high = eqb-true e.high 0 (every_true _ r 1) i;
@@ -183,15 +183,15 @@ entry-reset e r =
       control = eqb-true e.control 1 (every_true _ r 3) i;
     }
 
-pub absent-slot : (s : Settings) (slot : Slot) → slotSound s slot ≡ true → eqb slot.peer.connected 1 ≡ false
-    → length slot.entries ≡ s.vectors → slot ≡ resetSlot s.vectors 0
-unfolding slotSound peerReset entrySound resetSlot
-absent-slot s slot e d n =
-    let r : peerReset slot.peer ≡ true = absent-reset s slot e d in
-    let each = below_true s.vectors _ (and_right (peerSound s slot.peer) _ e) in
-    let entries : slot.entries ≡ replicate s.vectors resetEntry =
-    ext_get_or zeroEntry _ _ (n ∙ sym (length-replicate s.vectors resetEntry))
-    (λ v h. entry-reset (entry_at slot v) (rw d at (each v (rw n at h))) ∙ sym (get_or-replicate s.vectors v resetEntry zeroEntry (rw n at h))) in
+pub absent_slot_lem : (s : Settings) (slot : Slot) → slot_sound s slot ≡ true → eqb slot.peer.connected 1 ≡ false
+    → length slot.entries ≡ s.vectors → slot ≡ reset_slot s.vectors 0
+unfolding slot_sound peer_reset entry_sound reset_slot
+absent_slot_lem s slot e d n =
+    let r : peer_reset slot.peer ≡ true = absent_reset s slot e d in
+    let each = below_true s.vectors _ (and_right (peer_sound s slot.peer) _ e) in
+    let entries : slot.entries ≡ replicate s.vectors reset_entry =
+    ext_get_or zero_entry _ _ (n ∙ sym (length-replicate s.vectors reset_entry))
+    (λ v h. entry_reset_lem (entry_at slot v) (rw d at (each v (rw n at h))) ∙ sym (get_or-replicate s.vectors v reset_entry zero_entry (rw n at h))) in
     λ i. record {
       peer =
           record {
@@ -216,20 +216,20 @@ module _ {A : Type 0} (R : List A → Type 0) (d : A) (n : ℕ) (f g : ℕ → A
 
   replaced : (k : ℕ) → k ≤ n → R (tabulate n f) → R (tabulate n (up_to k))
   unfolding up_to
-  replaced zero h r = subst R (tabulate-ext n f (up_to zero) (λ j l. rw (le-ltb j 0 (omega arith)))) r
+  replaced zero h r = subst R (tabulate_ext n f (up_to zero) (λ j l. rw (le-ltb j 0 (omega arith)))) r
   replaced (suc k) h r =
       subst R
       (sym
-      (set-tabulate n (up_to k) (up_to (suc k)) k (g k) h (rw (lt-ltb k (suc k) (omega arith)))
+      (set_tabulate n (up_to k) (up_to (suc k)) k (g k) h (rw (lt-ltb k (suc k) (omega arith)))
       (λ j l e. rw (alike (ltb j (suc k)) (ltb j k) (λ t. lt-ltb j k (omega (arith, ltb-true j (suc k) t)))
       (λ t. lt-ltb j (suc k) (omega (arith, ltb-true j k t)))))))
-      (one k (tabulate n (up_to k)) h (length-tabulate n (up_to k)) (get_d_tabulate n (up_to k) k d h ∙ rw (le-ltb k k (omega arith))) (replaced k (omega arith) r))
+      (one k (tabulate n (up_to k)) h (length_tabulate n (up_to k)) (get_d_tabulate n (up_to k) k d h ∙ rw (le-ltb k k (omega arith))) (replaced k (omega arith) r))
 
   pub sweep : R (tabulate n f) → R (tabulate n g)
   unfolding up_to
-  sweep r = subst R (tabulate-ext n (up_to n) g (λ j l. rw (lt-ltb j n l))) (replaced n (omega arith) r)
+  sweep r = subst R (tabulate_ext n (up_to n) g (λ j l. rw (lt-ltb j n l))) (replaced n (omega arith) r)
 
 -- a list is the table of its elements
 pub tabled : {A : Type 0} (d : A) (n : ℕ) (l : List A) → length l ≡ n → tabulate n (λ i. get_or l i d) ≡ l
 tabled d n l e =
-    ext_get_or d _ l (length-tabulate n (λ i. get_or l i d) ∙ sym e) (λ i h. get_d_tabulate n (λ j. get_or l j d) i d (rw length-tabulate at h))
+    ext_get_or d _ l (length_tabulate n (λ i. get_or l i d) ∙ sym e) (λ i h. get_d_tabulate n (λ j. get_or l j d) i d (rw length_tabulate at h))

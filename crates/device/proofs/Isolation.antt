@@ -8,68 +8,68 @@ use borrow.Author.Tests.{eq-eqb, ne_eqb}
 use Rattle.common.proofs.TestLaws.{by_equal}
 use Rattle.device.specs.declared.Settings.{Settings}
 use Rattle.device.specs.Call.{Act, Call, call}
-use Rattle.device.specs.History.{Observation, start, after, observed, deliveriesTo, answerTo, spacesOf}
-use Rattle.device.specs.Refusal.{isConnected, refusal}
+use Rattle.device.specs.History.{Observation, start, after, observed, deliveries_to, answer_to, spaces_of}
+use Rattle.device.specs.Refusal.{is_connected, refusal}
 use Rattle.device.specs.SetUp.{accepted}
-use Rattle.device.specs.Step.{Outcome, effectIn, step}
-use Rattle.device.specs.Window.{Item, memoryBit, items, isAccepted, stateBefore, windowFrom, window, Isolation}
+use Rattle.device.specs.Step.{Outcome, effect_in, step}
+use Rattle.device.specs.Window.{Item, memory_bit, items, is_accepted, state_before, window_from, window, Isolation}
 use Rattle.device.specs.World.{Slot, World, slot_at}
-use Rattle.device.proofs.HistoryLaws.{Fit, Tracks, Remembered, fit-sound, start-fit, start-remembered, step-fit, step-remembered, taken, small}
-use Rattle.device.proofs.ReplayLaws.{Told, TableHolds, seen, toldBy, tell, replay, replay-both, replay-one, replay-fit, own-seen, sent-told}
-use Rattle.device.proofs.SeenLaws.{View, view, Sight, heardFirst, all_seen}
-use Rattle.device.proofs.StateWords.{Written, start-written, step-written, word-again}
-use Rattle.device.proofs.StepLaws.{accepted-effect, refused-changes-nothing}
+use Rattle.device.proofs.HistoryLaws.{Fit, Tracks, Remembered, fit_sound, start_fit, start_remembered, step_fit, step_remembered, taken, small}
+use Rattle.device.proofs.ReplayLaws.{Told, TableHolds, seen, told_by, tell, replay, replay_both, replay_one, replay_fit, own_seen, sent_told}
+use Rattle.device.proofs.SeenLaws.{View, view, Sight, heard_first, all_seen}
+use Rattle.device.proofs.StateWords.{Written, start_written, step_written, word_again}
+use Rattle.device.proofs.StepLaws.{accepted_effect, refused_changes_nothing}
 
 -- One call: the peer sees it as the replay of its items, in any world that looks alike to the peer.
 module _ (s : Settings) (a : accepted s ≡ true) (b : ℕ) (w w' : World) (f : Fit s w) (f' : Fit s w') (e : view b w ≡ view b w') where
   -- another's call gives the peer no answer
-  no_answer : (c : Call) (o : Outcome) → (c.who ≡ b → ⊥) → seen b (toldBy b c o) ≡ record { view = view b o.world; heard = deliveriesTo b o.deliveries }
-  unfolding answerTo
+  no_answer : (c : Call) (o : Outcome) → (c.who ≡ b → ⊥) → seen b (told_by b c o) ≡ record { view = view b o.world; heard = deliveries_to b o.deliveries }
+  unfolding answer_to
   no_answer c o d = rw (ne_eqb c.who b d)
 
-  own-call : (past : List Call) (act : Act)
-      → seen b (toldBy b (call b act) (step w (call b act)))
-      ≡ seen b (replay b w' (items b past (isAccepted w (call b act)) (stateBefore w (call b act)) (call b act)))
+  own_call : (past : List Call) (act : Act)
+      → seen b (told_by b (call b act) (step w (call b act)))
+      ≡ seen b (replay b w' (items b past (is_accepted w (call b act)) (state_before w (call b act)) (call b act)))
   unfolding items tell
-  own-call past act =
+  own_call past act =
       rw (eq-eqb b b refl)
-      (own-seen b act w w' (fit-sound s w a f) (fit-sound s w' a f') e ∙ ap (λ (r : Told). seen b r) (sym (replay-one b w' (Item.own act))))
+      (own_seen b act w w' (fit_sound s w a f) (fit_sound s w' a f') e ∙ ap (λ (r : Told). seen b r) (sym (replay_one b w' (Item.own act))))
 
-  taken-call : (past : List Call) (c : Call) → Remembered s past w → Written s w → (c.who ≡ b → ⊥) → refusal w c ≡ 0
-      → seen b (toldBy b c (step w c)) ≡ seen b (replay b w' (items b past true (stateBefore w c) c))
-  unfolding isConnected items
-  taken-call past c m words d r =
+  taken_call : (past : List Call) (c : Call) → Remembered s past w → Written s w → (c.who ≡ b → ⊥) → refusal w c ≡ 0
+      → seen b (told_by b c (step w c)) ≡ seen b (replay b w' (items b past true (state_before w c) c))
+  unfolding is_connected items
+  taken_call past c m words d r =
       let slot : Slot = slot_at w.hub c.who in
       let near : c.who < s.peers = small s w c a f r in
-      let memory : Tracks (memoryBit c.who past) slot = m c.who near in
+      let memory : Tracks (memory_bit c.who past) slot = m c.who near in
       let held : TableHolds w'.region c.who slot =
-      subst (λ (l : List ℕ). TableHolds l c.who slot) (ap (λ (x : View). x.region) e) (word-again s w.region c.who slot near (words c.who near)) in
+      subst (λ (l : List ℕ). TableHolds l c.who slot) (ap (λ (x : View). x.region) e) (word_again s w.region c.who slot near (words c.who near)) in
       no_answer c (step w c) d
-      ∙ ap (λ (o : Outcome). record { view = view b o.world; heard = deliveriesTo b o.deliveries }) (accepted-effect w c r)
-      ∙ all_seen b c.who false (ne_eqb c.who b d) (effectIn w c).operations w w' e
+      ∙ ap (λ (o : Outcome). record { view = view b o.world; heard = deliveries_to b o.deliveries }) (accepted_effect w c r)
+      ∙ all_seen b c.who false (ne_eqb c.who b d) (effect_in w c).operations w w' e
       ∙ rw (ne_eqb c.who b d)
-      (ap (λ (x : Told). seen b x) (sym (sent-told b c.who w.hub.settings slot w.region c.act _ w' (taken w c r).there memory held)))
+      (ap (λ (x : Told). seen b x) (sym (sent_told b c.who w.hub.settings slot w.region c.act _ w' (taken w c r).there memory held)))
 
-  refused-call : (past : List Call) (c : Call) → (c.who ≡ b → ⊥) → (refusal w c ≡ 0 → ⊥)
-      → seen b (toldBy b c (step w c)) ≡ seen b (replay b w' (items b past false (stateBefore w c) c))
-  unfolding replay deliveriesTo items
-  refused-call past c d n =
+  refused_call : (past : List Call) (c : Call) → (c.who ≡ b → ⊥) → (refusal w c ≡ 0 → ⊥)
+      → seen b (told_by b c (step w c)) ≡ seen b (replay b w' (items b past false (state_before w c) c))
+  unfolding replay deliveries_to items
+  refused_call past c d n =
       no_answer c (step w c) d
-      ∙ ap (λ (o : Outcome). record { view = view b o.world; heard = deliveriesTo b o.deliveries }) (refused-changes-nothing w c n)
+      ∙ ap (λ (o : Outcome). record { view = view b o.world; heard = deliveries_to b o.deliveries }) (refused_changes_nothing w c n)
       ∙ rw (ne_eqb c.who b d) (ap (λ (x : View). record { view = x; heard = [] }) e)
 
-  call-seen : (past : List Call) (c : Call) → Remembered s past w → Written s w
-      → seen b (toldBy b c (step w c)) ≡ seen b (replay b w' (items b past (isAccepted w c) (stateBefore w c) c))
-  call-seen past c m words =
+  call_seen : (past : List Call) (c : Call) → Remembered s past w → Written s w
+      → seen b (told_by b c (step w c)) ≡ seen b (replay b w' (items b past (is_accepted w c) (state_before w c) c))
+  call_seen past c m words =
       by_equal c.who b
       (λ (q : c.who ≡ b).
-      subst (λ (k : ℕ). seen b (toldBy b (call k c.act) (step w (call k c.act)))
-      ≡ seen b (replay b w' (items b past (isAccepted w (call k c.act)) (stateBefore w (call k c.act)) (call k c.act))))
-      (sym q) (own-call past c.act))
+      subst (λ (k : ℕ). seen b (told_by b (call k c.act) (step w (call k c.act)))
+      ≡ seen b (replay b w' (items b past (is_accepted w (call k c.act)) (state_before w (call k c.act)) (call k c.act))))
+      (sym q) (own_call past c.act))
       (λ (d : c.who ≡ b → ⊥).
       by_equal (refusal w c) 0
-      (λ (r : refusal w c ≡ 0). rw (eq-eqb (refusal w c) 0 r) (taken-call past c m words d r))
-      (λ (n : refusal w c ≡ 0 → ⊥). rw (ne_eqb (refusal w c) 0 n) (refused-call past c d n)))
+      (λ (r : refusal w c ≡ 0). rw (eq-eqb (refusal w c) 0 r) (taken_call past c m words d r))
+      (λ (n : refusal w c ≡ 0 → ⊥). rw (ne_eqb (refusal w c) 0 n) (refused_call past c d n)))
 
 -- The whole list of calls.
 
@@ -77,29 +77,29 @@ abbrev history : ℕ → World → List Call → Sight
 history b w cs = record { view = view b (after w cs); heard = observed b w cs }
 
 pub factored : (s : Settings) → accepted s ≡ true → (b : ℕ) (cs past : List Call) (w w' : World) → Fit s w → Remembered s past w → Written s w → Fit s w'
-    → view b w ≡ view b w' → history b w cs ≡ seen b (replay b w' (windowFrom b past w cs))
-unfolding after observed windowFrom replay
+    → view b w ≡ view b w' → history b w cs ≡ seen b (replay b w' (window_from b past w cs))
+unfolding after observed window_from replay
 factored s a b [] past w w' f m words f' e = ap (λ (x : View). record { view = x; heard = [] }) e
 factored s a b (c ∷ cs) past w w' f m words f' e =
-    let xs : List Item = items b past (isAccepted w c) (stateBefore w c) c in
-    let later : List Call = cond (isAccepted w c) (c ∷ past) past in
+    let xs : List Item = items b past (is_accepted w c) (state_before w c) c in
+    let later : List Call = cond (is_accepted w c) (c ∷ past) past in
     let next : World = (step w c).world in
-    let ys : List Item = windowFrom b later next cs in
-    let here = call-seen s a b w w' f f' e past c m words in
-    let rest = factored s a b cs later next (replay b w' xs).world (step-fit s w c a f) (step-remembered s w c a f past m)
-    (step-written s a w c f words) (replay-fit s b w' xs a f') (ap (λ (x : Sight). x.view) here) in
+    let ys : List Item = window_from b later next cs in
+    let here = call_seen s a b w w' f f' e past c m words in
+    let rest = factored s a b cs later next (replay b w' xs).world (step_fit s w c a f) (step_remembered s w c a f past m)
+    (step_written s a w c f words) (replay_fit s b w' xs a f') (ap (λ (x : Sight). x.view) here) in
     ap (λ (hs : List Observation). record { view = view b (after next cs); heard = hs })
-    (sym (append_assoc (answerTo b c (step w c)) (deliveriesTo b (step w c).deliveries) (observed b next cs)))
-    ∙ ap₂ (λ (x y : Sight). heardFirst x.heard y) here rest
-    ∙ ap (λ (r : Told). seen b r) (sym (replay-both b w' xs ys))
+    (sym (append_assoc (answer_to b c (step w c)) (deliveries_to b (step w c).deliveries) (observed b next cs)))
+    ∙ ap₂ (λ (x y : Sight). heard_first x.heard y) here rest
+    ∙ ap (λ (r : Told). seen b r) (sym (replay_both b w' xs ys))
 
 pub isolation : Isolation
-unfolding window spacesOf
+unfolding window spaces_of
 isolation s a b cs ds same =
     let whole : history b (start s) cs ≡ history b (start s) ds =
-    factored s a b cs [] (start s) (start s) (start-fit s) (start-remembered s) (start-written s a) (start-fit s) refl
+    factored s a b cs [] (start s) (start s) (start_fit s) (start_remembered s) (start_written s a) (start_fit s) refl
     ∙ ap (λ (xs : List Item). seen b (replay b (start s) xs)) same
-    ∙ sym (factored s a b ds [] (start s) (start s) (start-fit s) (start-remembered s) (start-written s a) (start-fit s) refl) in
+    ∙ sym (factored s a b ds [] (start s) (start s) (start_fit s) (start_remembered s) (start_written s a) (start_fit s) refl) in
     let settings : (after (start s) cs).hub.settings ≡ (after (start s) ds).hub.settings = ap (λ (x : Sight). x.view.settings) whole in
     let slot : slot_at (after (start s) cs).hub b ≡ slot_at (after (start s) ds).hub b = ap (λ (x : Sight). x.view.slot) whole in
     record {

@@ -7,31 +7,31 @@ use mathlib.Core.Path.{◌≡◌, refl}
 use native.Mathlib.Omega.{arith}
 use borrow.Author.Tests.{eq-eqb}
 use lib.Dec.{eqb}
-use Rattle.common.specs.Bytes.{bytes, number, setByte}
+use Rattle.common.specs.Bytes.{bytes, number, set_byte}
 use Rattle.common.specs.Tests.{first, every, below}
 use Rattle.device.specs.declared.Delivery.{Delivery}
 use Rattle.device.specs.declared.Settings.{Settings}
 use Rattle.device.specs.Call.{Call, call}
-use Rattle.device.specs.Call.Act.{connect, disconnect, reset, configurationRead, configurationWrite}
-use Rattle.device.specs.Call.Act.{registerRead, registerWrite, msixRead, msixWrite, question, load, store}
+use Rattle.device.specs.Call.Act.{connect, disconnect, reset, configuration_read, configuration_write}
+use Rattle.device.specs.Call.Act.{register_read, register_write, msix_read, msix_write, question, load, store}
 use Rattle.device.specs.Configuration
-use Rattle.device.specs.Configuration.{fields, fieldByte, configurationByte, masks, maskIn, maskAt, mask_of, withByte, writtenByte, configurationWritten}
-use Rattle.device.specs.Effect.{changes, announces, registerStored, effect}
-use Rattle.device.specs.History.{Observation, start, observed, deliveriesTo, answerTo}
-use Rattle.device.specs.Msix.{in_table, withWord, msixWritten}
-use Rattle.device.specs.Refusal.{lentTo, accessOf, wrongRegion, shortTable, missing, present}
-use Rattle.device.specs.Refusal.{wrongWidth, misaligned, outside, forbidden, isConnected, refusal}
+use Rattle.device.specs.Configuration.{fields, field_byte, configuration_byte, masks, mask_in, mask_at, mask_of, with_byte, written_byte, configuration_written}
+use Rattle.device.specs.Effect.{changes, announces, register_stored, effect}
+use Rattle.device.specs.History.{Observation, start, observed, deliveries_to, answer_to}
+use Rattle.device.specs.Msix.{in_table, with_word, msix_written}
+use Rattle.device.specs.Refusal.{lent_to, access_of, wrong_region, short_table, missing, present}
+use Rattle.device.specs.Refusal.{wrong_width, misaligned, outside, forbidden, is_connected, refusal}
 use Rattle.device.specs.Registers
-use Rattle.device.specs.Registers.{registerAt, memoryOn, registerValue}
-use Rattle.device.specs.Ring.{peerId, vector, gateOf, opens, target, deliveryOf, afterDelivery, ringAt, ring, ringFrom}
+use Rattle.device.specs.Registers.{register_at, memory_on, register_value}
+use Rattle.device.specs.Ring.{peer_id, vector, gate_of, opens, target, delivery_of, after_delivery, ring_at, ring, ring_from}
 use Rattle.device.specs.Ring
-use Rattle.device.specs.Sections.{outputs, sections, sectionIn, sectionOf, somewhere, mayStore}
-use Rattle.device.specs.SetUp.{total, accepted, freshHub}
-use Rattle.device.specs.Sizes.{maxPeers, maxVectors}
-use Rattle.device.specs.Sound.{peerFixed, peerReset, entryFixed, entryReset, peerSound, entrySound, slotSound, sound}
-use Rattle.device.specs.Step.{run, runAll, stepBy, step}
-use Rattle.device.specs.Window.{Item, memoryAfter, memoryBit, wordSent, sentBy, sent, items, windowFrom, window, Alike}
-use Rattle.device.specs.World.{zeroSlot, resetSlot}
+use Rattle.device.specs.Sections.{outputs, sections, section_in, section_of, somewhere, may_store}
+use Rattle.device.specs.SetUp.{total, accepted, fresh_hub}
+use Rattle.device.specs.Sizes.{max_peers, max_vectors}
+use Rattle.device.specs.Sound.{peer_fixed, peer_reset, entry_fixed, entry_reset, peer_sound, entry_sound, slot_sound, sound}
+use Rattle.device.specs.Step.{run, run_all, step_by, step}
+use Rattle.device.specs.Window.{Item, memory_after, memory_bit, word_sent, sent_by, sent, items, window_from, window, Alike}
+use Rattle.device.specs.World.{zero_slot, reset_slot}
 use Rattle.device.proofs.Isolation.{isolation}
 
 -- three peers with one vector; a page each for the State Table and the common section
@@ -40,25 +40,25 @@ numbers = record { peers = 3; vectors = 1; table = 4096; common = 4096; output =
 
 -- peers 0 and 1 are connected, and peer 1 has Command bit 1 on
 abbrev pub joined : List Call
-joined = call 0 connect ∷ call 1 connect ∷ call 1 (configurationWrite 0x04 2 0x0002) ∷ []
+joined = call 0 connect ∷ call 1 connect ∷ call 1 (configuration_write 0x04 2 0x0002) ∷ []
 
 -- then peer 0 takes interrupts, with data 40h
 abbrev pub ready : List Call
 ready =
     joined
-    ++ (call 0 (configurationWrite 0x04 2 0x0006)
-    ∷ call 0 (configurationWrite 0x63 1 0x80)
-    ∷ call 0 (msixWrite 0x08 4 0x40)
-    ∷ call 0 (msixWrite 0x0C 4 0)
-    ∷ call 0 (registerWrite 3 0x08 4 1)
+    ++ (call 0 (configuration_write 0x04 2 0x0006)
+    ∷ call 0 (configuration_write 0x63 1 0x80)
+    ∷ call 0 (msix_write 0x08 4 0x40)
+    ∷ call 0 (msix_write 0x0C 4 0)
+    ∷ call 0 (register_write 3 0x08 4 1)
     ∷ [])
 
 -- peer 1 rings vector 0 at peer 0, stores State 5, stores a byte of the common section
 abbrev pub bell : Call
-bell = call 1 (registerWrite 3 0x0C 4 0x00000000)
+bell = call 1 (register_write 3 0x0C 4 0x00000000)
 
 abbrev pub stores : Call
-stores = call 1 (registerWrite 3 0x10 4 5)
+stores = call 1 (register_write 3 0x10 4 5)
 
 abbrev pub shares : Call
 shares = call 1 (store 4096 (7 ∷ []))
@@ -69,15 +69,15 @@ looks = call 0 (load 4 4) ∷ call 0 (load 4096 1) ∷ []
 
 -- Histories told apart by numbers.
 
-abbrev itemCode : Item → List ℕ
-itemCode (Item.own a) = 0 ∷ []
-itemCode (Item.bell v) = 1 ∷ v.0 ∷ []
-itemCode (Item.word who x) = 2 ∷ who ∷ x ∷ []
-itemCode (Item.bytes at bs) = 3 ∷ at ∷ bs
+abbrev item_code : Item → List ℕ
+item_code (Item.own a) = 0 ∷ []
+item_code (Item.bell v) = 1 ∷ v.0 ∷ []
+item_code (Item.word who x) = 2 ∷ who ∷ x ∷ []
+item_code (Item.bytes at bs) = 3 ∷ at ∷ bs
 
-abbrev observationCode : Observation → List ℕ
-observationCode (Observation.answered n v a l) = 0 ∷ n ∷ v ∷ l
-observationCode (Observation.interrupted d) = 1 ∷ d.target.0 ∷ d.vector.0 ∷ d.address ∷ d.payload ∷ []
+abbrev observation_code : Observation → List ℕ
+observation_code (Observation.answered n v a l) = 0 ∷ n ∷ v ∷ l
+observation_code (Observation.interrupted d) = 1 ∷ d.target.0 ∷ d.vector.0 ∷ d.address ∷ d.payload ∷ []
 
 abbrev codes : {A : Type 0} → (A → List ℕ) → List A → List ℕ
 codes f [] = []
@@ -109,15 +109,15 @@ pair with without = record { with = with; without = without }
 
 -- (a) a call of peer 0 itself
 abbrev pub calls : Pair
-calls = pair (joined ++ (call 0 (registerRead 0x04 4) ∷ [])) joined
+calls = pair (joined ++ (call 0 (register_read 0x04 4) ∷ [])) joined
 
 -- (b) a Doorbell store
 abbrev pub bells : Pair
 bells = pair (ready ++ (bell ∷ [])) ready
 
 -- (c) a State store, a reset and a disconnect
-abbrev pub stateStores : Pair
-stateStores = pair (joined ++ (stores ∷ looks)) (joined ++ looks)
+abbrev pub state_stores : Pair
+state_stores = pair (joined ++ (stores ∷ looks)) (joined ++ looks)
 
 abbrev pub resets : Pair
 resets = pair (joined ++ (stores ∷ call 1 (reset 3) ∷ looks)) (joined ++ (stores ∷ looks))
@@ -126,11 +126,11 @@ abbrev pub disconnects : Pair
 disconnects = pair (joined ++ (stores ∷ call 1 (disconnect 3) ∷ looks)) (joined ++ (stores ∷ looks))
 
 -- (d) a shared store
-abbrev pub sharedStores : Pair
-sharedStores = pair (joined ++ (shares ∷ looks)) (joined ++ looks)
+abbrev pub shared_stores : Pair
+shared_stores = pair (joined ++ (shares ∷ looks)) (joined ++ looks)
 
 abbrev pub pairs : List Pair
-pairs = calls ∷ bells ∷ stateStores ∷ resets ∷ disconnects ∷ sharedStores ∷ []
+pairs = calls ∷ bells ∷ state_stores ∷ resets ∷ disconnects ∷ shared_stores ∷ []
 
 abbrev pub Each : (Pair → Type 0) → List Pair → Type 0
 Each P [] = Unit {0}
@@ -138,31 +138,31 @@ Each P (p ∷ ps) = P p × Each P ps
 
 abbrev Coded : Pair → Type 0
 Coded p =
-    (same (codes itemCode (window 0 numbers p.with)) (codes itemCode (window 0 numbers p.without)) ≡ false)
-    × (same (codes observationCode (observed 0 (start numbers) p.with)) (codes observationCode (observed 0 (start numbers) p.without)) ≡ false)
+    (same (codes item_code (window 0 numbers p.with)) (codes item_code (window 0 numbers p.without)) ≡ false)
+    × (same (codes observation_code (observed 0 (start numbers) p.with)) (codes observation_code (observed 0 (start numbers) p.without)) ≡ false)
 
 -- Calls of others that are no item: refused ones, reads, the section question, loads, connects, stores to own registers and entries,
 -- rings at itself, at a third peer and beyond the last id, rings and State stores with Command bit 1 off (peer 2), and, since C-11,
 -- the State 5 stored again, and a reset and a disconnect of a peer whose State is 0.
 abbrev pub hidden : List Call
 hidden =
-    call 1 (registerRead 0x04 2)
-    ∷ call 1 (configurationRead 0x00 4)
-    ∷ call 1 (configurationWrite 0x10 4 0xFFFFFFFF)
-    ∷ call 1 (registerRead 0x04 4)
-    ∷ call 1 (registerWrite 3 0x08 4 1)
-    ∷ call 1 (registerWrite 2 0x10 4 5)
-    ∷ call 1 (msixRead 0x0C 4)
-    ∷ call 1 (msixWrite 0x0C 4 0)
+    call 1 (register_read 0x04 2)
+    ∷ call 1 (configuration_read 0x00 4)
+    ∷ call 1 (configuration_write 0x10 4 0xFFFFFFFF)
+    ∷ call 1 (register_read 0x04 4)
+    ∷ call 1 (register_write 3 0x08 4 1)
+    ∷ call 1 (register_write 2 0x10 4 5)
+    ∷ call 1 (msix_read 0x0C 4)
+    ∷ call 1 (msix_write 0x0C 4 0)
     ∷ call 1 (question 0 4)
     ∷ call 1 (load 0 4)
     ∷ call 1 (store 0 (7 ∷ []))
     ∷ call 2 connect
-    ∷ call 2 (registerWrite 3 0x0C 4 0x00000000)
-    ∷ call 2 (registerWrite 3 0x10 4 9)
-    ∷ call 1 (registerWrite 3 0x0C 4 0x00010000)
-    ∷ call 1 (registerWrite 3 0x0C 4 0x00020000)
-    ∷ call 1 (registerWrite 3 0x0C 4 0x00030000)
+    ∷ call 2 (register_write 3 0x0C 4 0x00000000)
+    ∷ call 2 (register_write 3 0x10 4 9)
+    ∷ call 1 (register_write 3 0x0C 4 0x00010000)
+    ∷ call 1 (register_write 3 0x0C 4 0x00020000)
+    ∷ call 1 (register_write 3 0x0C 4 0x00030000)
     ∷ stores
     ∷ call 2 (reset 3)
     ∷ call 2 (disconnect 3)
@@ -176,38 +176,38 @@ interrupts (Observation.interrupted d ∷ os) = d ∷ interrupts os
 
 -- all that the examples compute with
 unfoldable pub computing : Unit {0}
-unfolding bytes number setByte first every below fields fieldByte configurationByte masks maskIn maskAt mask_of withByte
-    writtenByte configurationWritten Configuration.configurationRead changes announces registerStored effect start observed
-    deliveriesTo answerTo in_table withWord msixWritten lentTo accessOf wrongRegion shortTable missing present wrongWidth
-    misaligned outside forbidden isConnected refusal registerAt memoryOn registerValue Registers.registerRead gateOf opens
-    target deliveryOf afterDelivery ringAt ring ringFrom Ring.ringOthers outputs sections sectionIn sectionOf somewhere mayStore
-    total accepted freshHub maxPeers maxVectors peerFixed peerReset entryFixed entryReset peerSound entrySound slotSound sound
-    run runAll stepBy step memoryAfter memoryBit wordSent sentBy sent items windowFrom window zeroSlot resetSlot
+unfolding bytes number set_byte first every below fields field_byte configuration_byte masks mask_in mask_at mask_of with_byte
+    written_byte configuration_written Configuration.configuration_read changes announces register_stored effect start observed
+    deliveries_to answer_to in_table with_word msix_written lent_to access_of wrong_region short_table missing present wrong_width
+    misaligned outside forbidden is_connected refusal register_at memory_on register_value Registers.register_read gate_of opens
+    target delivery_of after_delivery ring_at ring ring_from Ring.ring_others outputs sections section_in section_of somewhere may_store
+    total accepted fresh_hub max_peers max_vectors peer_fixed peer_reset entry_fixed entry_reset peer_sound entry_sound slot_sound sound
+    run run_all step_by step memory_after memory_bit word_sent sent_by sent items window_from window zero_slot reset_slot
 computing = tt
 
-calls-coded : Coded calls
+calls_coded : Coded calls
 unfolding computing
-calls-coded = (refl, refl)
+calls_coded = (refl, refl)
 
-bells-coded : Coded bells
+bells_coded : Coded bells
 unfolding computing
-bells-coded = (refl, refl)
+bells_coded = (refl, refl)
 
-stores-coded : Coded stateStores
+stores_coded : Coded state_stores
 unfolding computing
-stores-coded = (refl, refl)
+stores_coded = (refl, refl)
 
-resets-coded : Coded resets
+resets_coded : Coded resets
 unfolding computing
-resets-coded = (refl, refl)
+resets_coded = (refl, refl)
 
-disconnects-coded : Coded disconnects
+disconnects_coded : Coded disconnects
 unfolding computing
-disconnects-coded = (refl, refl)
+disconnects_coded = (refl, refl)
 
-shared-coded : Coded sharedStores
+shared_coded : Coded shared_stores
 unfolding computing
-shared-coded = (refl, refl)
+shared_coded = (refl, refl)
 
 accepts : accepted numbers ≡ true
 unfolding computing
@@ -219,7 +219,7 @@ hides = refl
 
 -- Some history delivers an interrupt to peer 0.
 pub delivered : interrupts (observed 0 (start numbers) (ready ++ (bell ∷ []))) ≡ record {
-  target = peerId 0;
+  target = peer_id 0;
   vector = vector 0;
   address = 0;
   payload = 0x40;
@@ -233,11 +233,11 @@ Matters p = (window 0 numbers p.with ≡ window 0 numbers p.without → ⊥) × 
 
 matters : (ps : List Pair) → Each Coded ps → Each Matters ps
 matters [] c = tt
-matters (p ∷ ps) c = ((apart itemCode _ _ c.0.0, λ same. apart observationCode _ _ c.0.1 same.observations), matters ps c.1)
+matters (p ∷ ps) c = ((apart item_code _ _ c.0.0, λ same. apart observation_code _ _ c.0.1 same.observations), matters ps c.1)
 
-pub every-item-matters : Each Matters pairs
-every-item-matters = matters pairs (calls-coded, (bells-coded, (stores-coded, (resets-coded, (disconnects-coded, (shared-coded, tt))))))
+pub every_item_matters : Each Matters pairs
+every_item_matters = matters pairs (calls_coded, (bells_coded, (stores_coded, (resets_coded, (disconnects_coded, (shared_coded, tt))))))
 
 -- Calls that are no item change nothing for peer 0.
-pub others-hidden : Alike 0 numbers (ready ++ (stores ∷ hidden ++ looks)) (ready ++ (stores ∷ looks))
-others-hidden = isolation numbers accepts 0 _ _ hides
+pub others_hidden : Alike 0 numbers (ready ++ (stores ∷ hidden ++ looks)) (ready ++ (stores ∷ looks))
+others_hidden = isolation numbers accepts 0 _ _ hides

@@ -7,19 +7,19 @@ use mathlib.Core.List.{List, [], ◌∷◌, ◌++◌}
 use mathlib.Core.Path.{◌≡◌, refl, ap, ◌∙◌}
 use native.Mathlib.Omega.{arith}
 use Rattle.device.specs.Call.{Call, call}
-use Rattle.device.specs.Call.Act.{configurationWrite, registerWrite, reset}
-use Rattle.device.specs.History.{start, after, observed, deliveriesTo}
-use Rattle.device.specs.OneShot.{interruptControl, oneShot, throughout, interrupts, turnsRegister}
-use Rattle.device.specs.OneShot.{turnsAct, turns, one, count, timesSet, timesCleared, Limited}
-use Rattle.device.specs.Registers.{registerAt}
+use Rattle.device.specs.Call.Act.{configuration_write, register_write, reset}
+use Rattle.device.specs.History.{start, after, observed, deliveries_to}
+use Rattle.device.specs.OneShot.{interrupt_control, one_shot, throughout, interrupts, turns_register}
+use Rattle.device.specs.OneShot.{turns_act, turns, one, count, times_set, times_cleared, Limited}
+use Rattle.device.specs.Registers.{register_at}
 use Rattle.device.specs.Step.{Outcome, step}
 use Rattle.device.specs.World.{World}
 use Rattle.device.proofs.IsolationExamples.{numbers, ready, bell, computing}
-use Rattle.device.proofs.OneShot.{observed-more, doorbell-lost}
+use Rattle.device.proofs.OneShot.{observed_more, doorbell_lost}
 
 -- after `ready` Interrupt Control of peer 0 is 1; then it turns one-shot on
 abbrev pub armed : List Call
-armed = ready ++ (call 0 (configurationWrite 0x43 1 0x01) ∷ [])
+armed = ready ++ (call 0 (configuration_write 0x43 1 0x01) ∷ [])
 
 -- a first ring has brought it to 0
 abbrev pub disarmed : List Call
@@ -27,17 +27,17 @@ disarmed = armed ++ (bell ∷ [])
 
 -- peer 0 sets and clears Interrupt Control
 abbrev pub set : Call
-set = call 0 (registerWrite 3 0x08 4 1)
+set = call 0 (register_write 3 0x08 4 1)
 
 abbrev pub clear : Call
-clear = call 0 (registerWrite 3 0x08 4 0)
+clear = call 0 (register_write 3 0x08 4 0)
 
 -- two rings; and three rings, with a set before the first and before the last
 abbrev pub twice : List Call
 twice = bell ∷ bell ∷ []
 
-abbrev pub twoSets : List Call
-twoSets = set ∷ bell ∷ bell ∷ set ∷ bell ∷ []
+abbrev pub two_sets : List Call
+two_sets = set ∷ bell ∷ bell ∷ set ∷ bell ∷ []
 
 abbrev pub from : List Call → World
 from before = after (start numbers) before
@@ -56,10 +56,10 @@ abbrev counts : Bool → (got left cleared set began : ℕ) → Counts
 counts on got left cleared set began =
     record { on = on; got = got; left = left; cleared = cleared; set = set; began = began }
 
-abbrev pub countsOf : World → List Call → Counts
-countsOf w cs =
-    counts (throughout 0 w cs) (interrupts (observed 0 w cs)) (interruptControl 0 (after w cs)) (timesCleared 0 w cs) (timesSet 0 w cs)
-    (interruptControl 0 w)
+abbrev pub counts_of : World → List Call → Counts
+counts_of w cs =
+    counts (throughout 0 w cs) (interrupts (observed 0 w cs)) (interrupt_control 0 (after w cs)) (times_cleared 0 w cs) (times_set 0 w cs)
+    (interrupt_control 0 w)
 
 -- a stretch, and what its counts are
 pub record Case : Type 0 where
@@ -71,10 +71,10 @@ case stretch says = record { stretch = stretch; says = says }
 
 abbrev pub Right : World → List Case → Type 0
 Right w [] = Unit {0}
-Right w (c ∷ cs) = (countsOf w c.stretch ≡ c.says) × Right w cs
+Right w (c ∷ cs) = (counts_of w c.stretch ≡ c.says) × Right w cs
 
-pub fromOne : List Case
-fromOne =
+pub from_one : List Case
+from_one =
     -- the bound is reached: two rings, one interrupt
     case twice (counts true 1 0 0 0 1)
     -- a clear of the peer's own, and Interrupt Control left at 1: no number is 0
@@ -85,42 +85,42 @@ fromOne =
     ∷ case (call 0 (reset 3) ∷ []) (counts false 0 0 0 0 1)
     ∷ []
 
-pub fromZero : List Case
-fromZero =
+pub from_zero : List Case
+from_zero =
     -- the bound is reached: two sets, three rings, two interrupts
-    case twoSets (counts true 2 0 0 2 0)
+    case two_sets (counts true 2 0 0 2 0)
     -- a ring at Interrupt Control 0 does not come when it is set
     ∷ case (bell ∷ set ∷ []) (counts true 0 1 0 1 0)
     ∷ []
 
-pub withoutOneShot : List Case
-withoutOneShot =
+pub without_one_shot : List Case
+without_one_shot =
     -- two rings, two interrupts
     case twice (counts false 2 1 0 0 1)
     ∷ []
 
 -- The counts in one walk over the stretch, so that each call is computed once.
 
-withCall : World → Call → Outcome → Counts → Counts
-withCall w c o rest =
-    counts (oneShot 0 w && rest.on) (interrupts (deliveriesTo 0 o.deliveries) + rest.got) rest.left
-    (one (turns 1 0 0 w c) + rest.cleared) (one (turns 0 1 0 w c) + rest.set) (interruptControl 0 w)
+with_call : World → Call → Outcome → Counts → Counts
+with_call w c o rest =
+    counts (one_shot 0 w && rest.on) (interrupts (deliveries_to 0 o.deliveries) + rest.got) rest.left
+    (one (turns 1 0 0 w c) + rest.cleared) (one (turns 0 1 0 w c) + rest.set) (interrupt_control 0 w)
 
 added : World → Call → Outcome → (World → Counts) → Counts
-added w c o later = withCall w c o (later o.world)
+added w c o later = with_call w c o (later o.world)
 
 walk : List Call → World → Counts
-walk [] = λ w. counts (oneShot 0 w) 0 (interruptControl 0 w) 0 0 (interruptControl 0 w)
+walk [] = λ w. counts (one_shot 0 w) 0 (interrupt_control 0 w) 0 0 (interrupt_control 0 w)
 walk (c ∷ cs) = λ w. added w c (step w c) (walk cs)
 
-walked : (cs : List Call) (w : World) → countsOf w cs ≡ walk cs w
-unfolding throughout observed after count interrupts walk added withCall
+walked : (cs : List Call) (w : World) → counts_of w cs ≡ walk cs w
+unfolding throughout observed after count interrupts walk added with_call
 walked [] w = refl
 walked (c ∷ cs) w =
-    ap (λ (n : ℕ). counts (throughout 0 w (c ∷ cs)) n (interruptControl 0 (after w (c ∷ cs))) (timesCleared 0 w (c ∷ cs))
-    (timesSet 0 w (c ∷ cs)) (interruptControl 0 w))
-    (observed-more 0 w c cs)
-    ∙ ap (λ (rest : Counts). withCall w c (step w c) rest) (walked cs (step w c).world)
+    ap (λ (n : ℕ). counts (throughout 0 w (c ∷ cs)) n (interrupt_control 0 (after w (c ∷ cs))) (times_cleared 0 w (c ∷ cs))
+    (times_set 0 w (c ∷ cs)) (interrupt_control 0 w))
+    (observed_more 0 w c cs)
+    ∙ ap (λ (rest : Counts). with_call w c (step w c) rest) (walked cs (step w c).world)
 
 -- all walks of a list from one world, so that the calls before them are computed once too
 walks : World → List Case → List Counts
@@ -140,27 +140,27 @@ right w (c ∷ cs) e =
     (walked c.stretch w ∙ here, right w cs rest)
 
 -- all that the examples compute with
-computing-walks : Unit {0}
-unfolding computing after oneShot interrupts turnsRegister turnsAct turns walk added withCall walks said
-computing-walks = tt
+computing_walks : Unit {0}
+unfolding computing after one_shot interrupts turns_register turns_act turns walk added with_call walks said
+computing_walks = tt
 
-pub from_one : Right (from armed) fromOne
-unfolding computing-walks fromOne
-from_one = right (from armed) fromOne refl
+pub from_one_lem : Right (from armed) from_one
+unfolding computing_walks from_one
+from_one_lem = right (from armed) from_one refl
 
-pub from_zero : Right (from disarmed) fromZero
-unfolding computing-walks fromZero
-from_zero = right (from disarmed) fromZero refl
+pub from_zero_lem : Right (from disarmed) from_zero
+unfolding computing_walks from_zero
+from_zero_lem = right (from disarmed) from_zero refl
 
-pub without-one-shot : Right (from ready) withoutOneShot
-unfolding computing-walks withoutOneShot
-without-one-shot = right (from ready) withoutOneShot refl
+pub without_one_shot_lem : Right (from ready) without_one_shot
+unfolding computing_walks without_one_shot
+without_one_shot_lem = right (from ready) without_one_shot refl
 
 -- One-shot is needed: with it off, the two rings that gave one interrupt with it on exceed the bound.
 pub exceeded : Limited 0 (from ready) twice → ⊥
-unfolding withoutOneShot
+unfolding without_one_shot
 exceeded h =
-    let e : countsOf (from ready) twice ≡ counts false 2 1 0 0 1 = without-one-shot.0 in
+    let e : counts_of (from ready) twice ≡ counts false 2 1 0 0 1 = without_one_shot_lem.0 in
     let got = ap (λ (k : Counts). k.got) e in
     let set = ap (λ (k : Counts). k.set) e in
     let began = ap (λ (k : Counts). k.began) e in
@@ -169,5 +169,5 @@ exceeded h =
 
 -- A ring at Interrupt Control 0 leaves no trace: the world is as it was, and nothing was delivered.
 pub lost : ((step (from disarmed) bell).world ≡ from disarmed) × ((step (from disarmed) bell).deliveries ≡ [])
-unfolding fromZero registerAt
-lost = doorbell-lost (from disarmed) 1 3 0x0C 4 0x00000000 refl (ap (λ (k : Counts). k.began) from_zero.0)
+unfolding from_zero register_at
+lost = doorbell_lost (from disarmed) 1 3 0x0C 4 0x00000000 refl (ap (λ (k : Counts). k.began) from_zero_lem.0)

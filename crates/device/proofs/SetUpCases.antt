@@ -8,8 +8,8 @@ use mathlib.Core.Path.{refl}
 use lib.ListN.{replicate}
 use Rattle.common.specs.Tests.{first, every}
 use Rattle.device.specs.declared.Settings.{Settings}
-use Rattle.device.specs.SetUp.{total, accepted, setUpRefusal}
-use Rattle.device.specs.Sizes.{maxPeers, maxVectors}
+use Rattle.device.specs.SetUp.{total, accepted, set_up_refusal}
+use Rattle.device.specs.Sizes.{max_peers, max_vectors}
 use Rattle.device.proofs.BenchCases.{Case, Right}
 
 -- N, V, S and the base; there is no section but the State Table
@@ -21,7 +21,7 @@ numbers n v s base =
 -- give it
 abbrev lent : Bool → ℕ → ℕ → ℕ → ℕ → ℕ → Case
 lent roomy bytes n v s says =
-    record { gives = setUpRefusal roomy (numbers n v s (2 ^ 32)) (replicate bytes 0) ∷ []; says = says ∷ [] }
+    record { gives = set_up_refusal roomy (numbers n v s (2 ^ 32)) (replicate bytes 0) ∷ []; says = says ∷ [] }
 
 -- one in which all that is lent is right
 abbrev case : ℕ → ℕ → ℕ → ℕ → Case
@@ -29,7 +29,7 @@ case n v s says = lent true s n v s says
 
 -- one with T and the base, and all else right
 abbrev placed : ℕ → ℕ → ℕ → Case
-placed t base says = record { gives = setUpRefusal true (numbers 2 1 t base) (replicate t 0) ∷ []; says = says ∷ [] }
+placed t base says = record { gives = set_up_refusal true (numbers 2 1 t base) (replicate t 0) ∷ []; says = says ∷ [] }
 
 pub cases : List Case
 cases =
@@ -70,9 +70,9 @@ cases =
     ∷ []
 
 -- each case by computation
-pub set-ups : Right cases
-unfolding cases first every total accepted setUpRefusal maxPeers maxVectors
-set-ups = (
+pub set_ups : Right cases
+unfolding cases first every total accepted set_up_refusal max_peers max_vectors
+set_ups = (
   refl,
   (
     refl,

@@ -11,16 +11,16 @@ use borrow.Author.Tests.{leb-true, ltb-true}
 use Rattle.common.specs.Tests.{every}
 use Rattle.common.proofs.TestLaws.{every_true}
 use Rattle.device.specs.declared.Settings.{Settings}
-use Rattle.device.specs.SetUp.{accepted, total, paged, minBase, sixteenBits}
-use Rattle.device.specs.Sizes.{maxPeers, maxVectors}
+use Rattle.device.specs.SetUp.{accepted, total, paged, min_base, sixteen_bits}
+use Rattle.device.specs.Sizes.{max_peers, max_vectors}
 use Rattle.device.specs.Sound.{sound}
-use Rattle.device.specs.World.{zeroHub}
+use Rattle.device.specs.World.{zero_hub}
 
 pub record Accepted (s : Settings) : Type 0 where
   pub two : 2 ≤ s.peers
-  pub peers : s.peers ≤ maxPeers
+  pub peers : s.peers ≤ max_peers
   pub one : 1 ≤ s.vectors
-  pub vectors : s.vectors ≤ maxVectors
+  pub vectors : s.vectors ≤ max_vectors
   pub state : 4 * s.peers ≤ s.table
   pub whole : total s ≤ 2 ^ 30
   pub placed : s.base + total s ≤ 2 ^ 64
@@ -32,9 +32,9 @@ pub record Accepted (s : Settings) : Type 0 where
 unfoldable pub tests : Settings → List Bool
 tests s =
     leb 2 s.peers
-    ∷ leb s.peers maxPeers
+    ∷ leb s.peers max_peers
     ∷ leb 1 s.vectors
-    ∷ leb s.vectors maxVectors
+    ∷ leb s.vectors max_vectors
     ∷ not (eqb s.table 0)
     ∷ paged s.table
     ∷ leb (4 * s.peers) s.table
@@ -42,20 +42,20 @@ tests s =
     ∷ paged s.output
     ∷ leb (total s) (2 ^ 30)
     ∷ paged s.base
-    ∷ leb minBase s.base
+    ∷ leb min_base s.base
     ∷ leb (s.base + total s) (2 ^ 64)
-    ∷ sixteenBits s.protocol
-    ∷ sixteenBits s.vendor
-    ∷ sixteenBits s.subsystem
+    ∷ sixteen_bits s.protocol
+    ∷ sixteen_bits s.vendor
+    ∷ sixteen_bits s.subsystem
     ∷ []
 
 pub each : (s : Settings) → accepted s ≡ true → (k : ℕ) → get_or (tests s) k true ≡ true
 unfolding accepted tests
 each s e k = every_true (tests s) e k
 
-pub accepted-facts : (s : Settings) → accepted s ≡ true → Accepted s
+pub accepted_facts : (s : Settings) → accepted s ≡ true → Accepted s
 unfolding tests
-accepted-facts s e =
+accepted_facts s e =
     record {
       two = leb-true _ _ (each s e 0);
       peers = leb-true _ _ (each s e 1);
@@ -70,21 +70,21 @@ accepted-facts s e =
     }
 
 -- each section is no larger than the whole
-pub table-small : (s : Settings) → Accepted s → s.table ≤ 2 ^ 30
+pub table_small : (s : Settings) → Accepted s → s.table ≤ 2 ^ 30
 unfolding total
-table-small s a = omega (arith, a.whole)
+table_small s a = omega (arith, a.whole)
 
-pub common-small : (s : Settings) → Accepted s → s.common ≤ 2 ^ 30
+pub common_small : (s : Settings) → Accepted s → s.common ≤ 2 ^ 30
 unfolding total
-common-small s a = omega (arith, a.whole)
+common_small s a = omega (arith, a.whole)
 
-pub output-small : (s : Settings) → Accepted s → s.output ≤ 2 ^ 30
+pub output_small : (s : Settings) → Accepted s → s.output ≤ 2 ^ 30
 unfolding total
-output-small s a =
+output_small s a =
     let h : 2 * s.output ≤ s.peers * s.output = mul-le-mul_right s.output a.two in
     omega (arith, a.whole)
 
 -- the all-zero hub is not sound: its settings would not be accepted
-pub zero-unsound : sound zeroHub ≡ false
-unfolding sound zeroHub accepted every
-zero-unsound = refl
+pub zero_unsound : sound zero_hub ≡ false
+unfolding sound zero_hub accepted every
+zero_unsound = refl

@@ -1,25 +1,25 @@
 -- All that proofs know of the most peers and vectors.
 use Prim.Native.Nat.{◌≤◌, ◌<◌, ◌^◌}
 use native.Mathlib.Omega.{arith}
-use Rattle.device.specs.Sizes.{maxPeers, maxVectors}
+use Rattle.device.specs.Sizes.{max_peers, max_vectors}
 
-pub maxPeers-small : maxPeers ≤ 2 ^ 16
-unfolding maxPeers
-maxPeers-small = omega arith
+pub max_peers_small : max_peers ≤ 2 ^ 16
+unfolding max_peers
+max_peers_small = omega arith
 
 -- an id fits a byte
-pub maxPeers-byte : maxPeers ≤ 2 ^ 8
-unfolding maxPeers
-maxPeers-byte = omega arith
+pub max_peers_byte : max_peers ≤ 2 ^ 8
+unfolding max_peers
+max_peers_byte = omega arith
 
-pub maxPeers-pos : 0 < maxPeers
-unfolding maxPeers
-maxPeers-pos = omega arith
+pub max_peers_pos : 0 < max_peers
+unfolding max_peers
+max_peers_pos = omega arith
 
-pub maxVectors-small : maxVectors ≤ 2 ^ 8
-unfolding maxVectors
-maxVectors-small = omega arith
+pub max_vectors_small : max_vectors ≤ 2 ^ 8
+unfolding max_vectors
+max_vectors_small = omega arith
 
-pub maxVectors-pos : 0 < maxVectors
-unfolding maxVectors
-maxVectors-pos = omega arith
+pub max_vectors_pos : 0 < max_vectors
+unfolding max_vectors
+max_vectors_pos = omega arith

@@ -8,12 +8,12 @@ use Rattle.common.specs.Tests.{every, below}
 use Rattle.device.specs.declared.Entry.{Entry}
 use Rattle.device.specs.declared.Peer.{Peer}
 use Rattle.device.specs.declared.Settings.{Settings}
-use Rattle.device.specs.Configuration.{masks, maskIn, maskAt, mask_of}
-use Rattle.device.specs.Reset.{resetPeer, resetEntry}
+use Rattle.device.specs.Configuration.{masks, mask_in, mask_at, mask_of}
+use Rattle.device.specs.Reset.{reset_peer, reset_entry}
 use Rattle.device.specs.SetUp.{total, accepted}
-use Rattle.device.specs.Sizes.{maxPeers, maxVectors}
-use Rattle.device.specs.Sound.{peerFixed, peerReset, entryFixed, entryReset, peerSound, entrySound, slotSound, sound}
-use Rattle.device.specs.World.{Hub, Slot, zeroSlot}
+use Rattle.device.specs.Sizes.{max_peers, max_vectors}
+use Rattle.device.specs.Sound.{peer_fixed, peer_reset, entry_fixed, entry_reset, peer_sound, entry_sound, slot_sound, sound}
+use Rattle.device.specs.World.{Hub, Slot, zero_slot}
 
 -- N, V, S, R, O, base, protocol type, subsystem vendor, subsystem id
 abbrev numbers : ℕ → ℕ → ℕ → ℕ → ℕ → ℕ → ℕ → ℕ → ℕ → Settings
@@ -45,8 +45,8 @@ two = numbers 2 2 4096 0 0 0x40000000 0 0 0
 abbrev full : Peer
 full = peer 1 0x0406 0xFFFFF000 0xFFFFF000 0x01 0xC0 0x01 0xFFFFFFFF
 
-abbrev fullEntry : Entry
-fullEntry = entry 0xFFFFFFFC 0xFFFFFFFF 0xFFFFFFFF 0x01
+abbrev full_entry : Entry
+full_entry = entry 0xFFFFFFFC 0xFFFFFFFF 0xFFFFFFFF 0x01
 
 abbrev slot : Peer → Entry → Entry → Slot
 slot p e f = record { peer = p; entries = e ∷ f ∷ [] }
@@ -55,19 +55,19 @@ abbrev hub : Settings → Slot → Slot → Hub
 hub s a b = record { settings = s; slots = a ∷ b ∷ [] }
 
 abbrev present : Slot
-present = slot full fullEntry fullEntry
+present = slot full full_entry full_entry
 
 abbrev absent : Slot
-absent = slot (resetPeer 0) resetEntry resetEntry
+absent = slot (reset_peer 0) reset_entry reset_entry
 
-pub soundHubs : List Hub
-soundHubs =
+pub sound_hubs : List Hub
+sound_hubs =
     hub two absent absent
     ∷ hub two present absent
     ∷ hub two absent present
     ∷ hub two present present
     -- connected and at reset, and with no bit of an entry set
-    ∷ hub two (slot (resetPeer 1) resetEntry (entry 0 0 0 0)) present
+    ∷ hub two (slot (reset_peer 1) reset_entry (entry 0 0 0 0)) present
     -- the lowest base
     ∷ hub (numbers 2 2 4096 0 0 0x100000 0 0 0) present absent
     ∷ []
@@ -97,7 +97,7 @@ unaccepted =
 -- R34: bits that cannot be written, of a connected peer, the first or the last
 pub unfixed : List Hub
 unfixed =
-    map (λ p. hub two (slot p fullEntry fullEntry) absent)
+    map (λ p. hub two (slot p full_entry full_entry) absent)
     (peer 1 0x0407 0xFFFFF000 0xFFFFF000 0x01 0xC0 0x01 0
     ∷ peer 1 0x0506 0xFFFFF000 0xFFFFF000 0x01 0xC0 0x01 0
     ∷ peer 1 0x010406 0xFFFFF000 0xFFFFF000 0x01 0xC0 0x01 0
@@ -108,13 +108,13 @@ unfixed =
     ∷ peer 1 0x0406 0xFFFFF000 0xFFFFF000 0x01 0x01C0 0x01 0
     ∷ peer 1 0x0406 0xFFFFF000 0xFFFFF000 0x01 0xC0 0x03 0
     ∷ [])
-    ++ map (λ e. hub two absent (slot full fullEntry e)) (entry 0xFFFFFFFD 0 0 0 ∷ entry 0xFFFFFFFE 0 0 0 ∷ entry 0 0 0 0x03 ∷ [])
-    ++ (hub two (slot full (entry 2 0 0 0) fullEntry) absent ∷ [])
+    ++ map (λ e. hub two absent (slot full full_entry e)) (entry 0xFFFFFFFD 0 0 0 ∷ entry 0xFFFFFFFE 0 0 0 ∷ entry 0 0 0 0x03 ∷ [])
+    ++ (hub two (slot full (entry 2 0 0 0) full_entry) absent ∷ [])
 
 -- R35: peers that are not connected and not at reset, with bits that could be written
-pub notReset : List Hub
-notReset =
-    map (λ p. hub two present (slot p resetEntry resetEntry))
+pub not_reset : List Hub
+not_reset =
+    map (λ p. hub two present (slot p reset_entry reset_entry))
     (peer 2 0 0 0 0 0 0 0
     ∷ peer 0 0x0400 0 0 0 0 0 0
     ∷ peer 0 0 0x1000 0 0 0 0 0
@@ -124,15 +124,15 @@ notReset =
     ∷ peer 0 0 0 0 0 0 0x01 0
     ∷ peer 0 0 0 0 0 0 0 1
     ∷ [])
-    ++ map (λ e. hub two (slot (resetPeer 0) resetEntry e) present) (entry 4 0 0 1 ∷ entry 0 1 0 1 ∷ entry 0 0 1 1 ∷ entry 0 0 0 0 ∷ [])
-    ++ (hub two (slot (resetPeer 0) (entry 0 0 1 1) resetEntry) present ∷ [])
+    ++ map (λ e. hub two (slot (reset_peer 0) reset_entry e) present) (entry 4 0 0 1 ∷ entry 0 1 0 1 ∷ entry 0 0 1 1 ∷ entry 0 0 0 0 ∷ [])
+    ++ (hub two (slot (reset_peer 0) (entry 0 0 1 1) reset_entry) present ∷ [])
 
-pub sound-hubs : every (map sound soundHubs) ≡ true
-unfolding soundHubs every below masks maskIn maskAt mask_of total accepted maxPeers maxVectors peerFixed peerReset entryFixed
-    entryReset peerSound entrySound slotSound sound zeroSlot
-sound-hubs = refl
+pub sound_hubs_lem : every (map sound sound_hubs) ≡ true
+unfolding sound_hubs every below masks mask_in mask_at mask_of total accepted max_peers max_vectors peer_fixed peer_reset entry_fixed
+    entry_reset peer_sound entry_sound slot_sound sound zero_slot
+sound_hubs_lem = refl
 
-pub unsound-hubs : every (map (λ h. not (sound h)) (unaccepted ++ unfixed ++ notReset)) ≡ true
-unfolding unaccepted unfixed notReset every below masks maskIn maskAt mask_of total accepted maxPeers maxVectors peerFixed
-    peerReset entryFixed entryReset peerSound entrySound slotSound sound zeroSlot
-unsound-hubs = refl
+pub unsound_hubs : every (map (λ h. not (sound h)) (unaccepted ++ unfixed ++ not_reset)) ≡ true
+unfolding unaccepted unfixed not_reset every below masks mask_in mask_at mask_of total accepted max_peers max_vectors peer_fixed
+    peer_reset entry_fixed entry_reset peer_sound entry_sound slot_sound sound zero_slot
+unsound_hubs = refl

@@ -8,12 +8,12 @@ pub data Act : Type 0 where
   disconnect : (records : ℕ) → Act
   reset : (records : ℕ) → Act
   -- by a guest
-  configurationRead : (offset width : ℕ) → Act
-  configurationWrite : (offset width value : ℕ) → Act
-  registerRead : (offset width : ℕ) → Act
-  registerWrite : (records offset width value : ℕ) → Act
-  msixRead : (offset width : ℕ) → Act
-  msixWrite : (offset width value : ℕ) → Act
+  configuration_read : (offset width : ℕ) → Act
+  configuration_write : (offset width value : ℕ) → Act
+  register_read : (offset width : ℕ) → Act
+  register_write : (records offset width value : ℕ) → Act
+  msix_read : (offset width : ℕ) → Act
+  msix_write : (offset width value : ℕ) → Act
   -- the question which section a range is in, and whether it may be stored to
   question : (offset length : ℕ) → Act
   -- the length of a load is that of the lent buffer

@@ -1,6 +1,6 @@
 -- Configuration space, 256 bytes (R37 to R44).
 use Rattle.std.specs.Prelude.{ℕ, zero, suc, ◌+◌, ◌-◌, ◌*◌, ◌/◌, ◌%◌, Bool, cond, ◌&&◌, List, [], ◌∷◌, ◌++◌, eqb, leb, ltb}
-use Rattle.common.specs.Bytes.{byte, setByte, merge}
+use Rattle.common.specs.Bytes.{byte, set_byte, merge}
 use Rattle.device.specs.declared.Peer.{Peer}
 use Rattle.device.specs.declared.Settings.{Settings}
 
@@ -15,8 +15,8 @@ field start size content = record { start = start; size = size; content = conten
 
 -- The table of R38, in three parts: the header's registers, the vendor-specific capability at 40h and the MSI-X capability
 -- at 60h.
-abbrev pub headerFields : Settings → Peer → List Field
-headerFields s p =
+abbrev pub header_fields : Settings → Peer → List Field
+header_fields s p =
     field 0x00 2 0x110A
     ∷ field 0x02 2 0x4106
     ∷ field 0x04 2 p.command
@@ -31,8 +31,8 @@ headerFields s p =
     ∷ field 0x34 1 0x40
     ∷ []
 
-abbrev pub vendorFields : Settings → Peer → List Field
-vendorFields s p =
+abbrev pub vendor_fields : Settings → Peer → List Field
+vendor_fields s p =
     field 0x40 1 0x09
     ∷ field 0x41 1 0x60
     ∷ field 0x42 1 0x20
@@ -44,8 +44,8 @@ vendorFields s p =
     ∷ []
 
 -- Message Control is given as its two bytes: V - 1 fits the low one
-abbrev pub msixFields : Settings → Peer → List Field
-msixFields s p =
+abbrev pub msix_fields : Settings → Peer → List Field
+msix_fields s p =
     field 0x60 1 0x11
     ∷ field 0x61 1 0x00
     ∷ field 0x62 1 (s.vectors - 1)
@@ -55,24 +55,24 @@ msixFields s p =
     ∷ []
 
 unfoldable pub fields : Settings → Peer → List Field
-fields s p = headerFields s p ++ (vendorFields s p ++ msixFields s p)
+fields s p = header_fields s p ++ (vendor_fields s p ++ msix_fields s p)
 
 -- an offset is one of the `size` from `start`
 abbrev pub within : ℕ → ℕ → ℕ → Bool
 within start size at = leb start at && ltb at (start + size)
 
 -- the byte at an offset; an offset with no rule reads 0
-unfoldable pub fieldByte : ℕ → List Field → ℕ
-fieldByte at [] = 0
-fieldByte at (f ∷ fs) = cond (within f.start f.size at) (byte (at - f.start) f.content) (fieldByte at fs)
+unfoldable pub field_byte : ℕ → List Field → ℕ
+field_byte at [] = 0
+field_byte at (f ∷ fs) = cond (within f.start f.size at) (byte (at - f.start) f.content) (field_byte at fs)
 
-unfoldable pub configurationByte : Settings → Peer → ℕ → ℕ
-configurationByte s p at = fieldByte at (fields s p)
+unfoldable pub configuration_byte : Settings → Peer → ℕ → ℕ
+configuration_byte s p at = field_byte at (fields s p)
 
 -- a read of some bytes, little-endian
-unfoldable pub configurationRead : Settings → Peer → ℕ → ℕ → ℕ
-configurationRead s p at zero = 0
-configurationRead s p at (suc width) = configurationByte s p at + 256 * configurationRead s p (suc at) width
+unfoldable pub configuration_read : Settings → Peer → ℕ → ℕ → ℕ
+configuration_read s p at zero = 0
+configuration_read s p at (suc width) = configuration_byte s p at + 256 * configuration_read s p (suc at) width
 
 -- The mask of each byte: the bits that a write replaces.
 pub record Mask : Type 0 where
@@ -98,26 +98,26 @@ masks s =
     ∷ []
 
 -- R41: a byte that no row gives a mask has mask 00h
-unfoldable pub maskIn : ℕ → List Mask → ℕ
-maskIn at [] = 0x00
-maskIn at (m ∷ ms) = cond (eqb at m.at) m.bits (maskIn at ms)
+unfoldable pub mask_in : ℕ → List Mask → ℕ
+mask_in at [] = 0x00
+mask_in at (m ∷ ms) = cond (eqb at m.at) m.bits (mask_in at ms)
 
-unfoldable pub maskAt : Settings → ℕ → ℕ
-maskAt s at = maskIn at (masks s)
+unfoldable pub mask_at : Settings → ℕ → ℕ
+mask_at s at = mask_in at (masks s)
 
 -- the mask of a field of `size` bytes, as one number
 unfoldable pub mask_of : Settings → ℕ → ℕ → ℕ
 mask_of s at zero = 0
-mask_of s at (suc size) = maskAt s at + 256 * mask_of s (suc at) size
+mask_of s at (suc size) = mask_at s at + 256 * mask_of s (suc at) size
 
 -- the registers with the byte at an offset replaced; only offsets that a mask names are kept in registers
-unfoldable pub withByte : Peer → ℕ → ℕ → Peer
-withByte p at b =
+unfoldable pub with_byte : Peer → ℕ → ℕ → Peer
+with_byte p at b =
     record {
       connected = p.connected;
-      command = cond (within 0x04 2 at) (setByte (at - 0x04) b p.command) p.command;
-      bar0 = cond (within 0x10 4 at) (setByte (at - 0x10) b p.bar0) p.bar0;
-      bar1 = cond (within 0x14 4 at) (setByte (at - 0x14) b p.bar1) p.bar1;
+      command = cond (within 0x04 2 at) (set_byte (at - 0x04) b p.command) p.command;
+      bar0 = cond (within 0x10 4 at) (set_byte (at - 0x10) b p.bar0) p.bar0;
+      bar1 = cond (within 0x14 4 at) (set_byte (at - 0x14) b p.bar1) p.bar1;
       privileged = cond (eqb at 0x43) b p.privileged;
       message = cond (eqb at 0x63) b p.message;
       interrupt = p.interrupt;
@@ -125,11 +125,11 @@ withByte p at b =
     }
 
 -- R42: of a byte a write replaces the bits of the mask alone
-unfoldable pub writtenByte : Settings → Peer → ℕ → ℕ → Peer
-writtenByte s p at b = withByte p at (merge (maskAt s at) (configurationByte s p at) b)
+unfoldable pub written_byte : Settings → Peer → ℕ → ℕ → Peer
+written_byte s p at b = with_byte p at (merge (mask_at s at) (configuration_byte s p at) b)
 
 -- the low bytes of the value, from the lowest
-unfoldable pub configurationWritten : Settings → Peer → ℕ → ℕ → ℕ → Peer
-configurationWritten s p at zero value = p
-configurationWritten s p at (suc width) value =
-    configurationWritten s (writtenByte s p at (value % 256)) (suc at) width (value / 256)
+unfoldable pub configuration_written : Settings → Peer → ℕ → ℕ → ℕ → Peer
+configuration_written s p at zero value = p
+configuration_written s p at (suc width) value =
+    configuration_written s (written_byte s p at (value % 256)) (suc at) width (value / 256)

@@ -5,16 +5,16 @@ use Rattle.device.specs.declared.Delivery.{Delivery}
 use Rattle.device.specs.declared.SectionAnswer.{SectionAnswer}
 use Rattle.device.specs.declared.Settings.{Settings}
 use Rattle.device.specs.Call.{Call}
-use Rattle.device.specs.Configuration.{configurationByte}
-use Rattle.device.specs.Msix.{tableWord}
-use Rattle.device.specs.Registers.{registerAt, registerValue}
-use Rattle.device.specs.SetUp.{total, freshHub}
+use Rattle.device.specs.Configuration.{configuration_byte}
+use Rattle.device.specs.Msix.{table_word}
+use Rattle.device.specs.Registers.{register_at, register_value}
+use Rattle.device.specs.SetUp.{total, fresh_hub}
 use Rattle.device.specs.Step.{Outcome, step}
 use Rattle.device.specs.World.{World, world, slot_at}
 
 -- R66: a history is any list of calls, by or on any ids, refused ones included. It starts with what an accepted set-up leaves.
 unfoldable pub start : Settings → World
-start s = world (freshHub s) (replicate (total s) 0)
+start s = world (fresh_hub s) (replicate (total s) 0)
 
 -- R66: each call meets the world that the call before it left
 unfoldable pub after : World → List Call → World
@@ -29,19 +29,19 @@ pub data Observation : Type 0 where
   interrupted : Delivery → Observation
 
 -- the deliveries of a list that are for b
-unfoldable pub deliveriesTo : ℕ → List Delivery → List Observation
-deliveriesTo b [] = []
-deliveriesTo b (d ∷ ds) = cond (eqb d.target.0 b) (Observation.interrupted d ∷ deliveriesTo b ds) (deliveriesTo b ds)
+unfoldable pub deliveries_to : ℕ → List Delivery → List Observation
+deliveries_to b [] = []
+deliveries_to b (d ∷ ds) = cond (eqb d.target.0 b) (Observation.interrupted d ∷ deliveries_to b ds) (deliveries_to b ds)
 
-unfoldable pub answerTo : ℕ → Call → Outcome → List Observation
-answerTo b c o =
+unfoldable pub answer_to : ℕ → Call → Outcome → List Observation
+answer_to b c o =
     cond (eqb c.who b) (Observation.answered o.number o.value o.answer o.loaded ∷ []) []
 
 -- R67: a single list, call by call, the answer before the deliveries
 unfoldable pub observed : ℕ → World → List Call → List Observation
 observed b w [] = []
 observed b w (c ∷ cs) =
-    answerTo b c (step w c) ++ (deliveriesTo b (step w c).deliveries ++ observed b (step w c).world cs)
+    answer_to b c (step w c) ++ (deliveries_to b (step w c).deliveries ++ observed b (step w c).world cs)
 
 -- R68: the peer's registers, those that Command bit 1 hides too: each byte of configuration space, and each word of
 -- the register region and of the MSI-X region as it reads with that bit on
@@ -50,11 +50,11 @@ pub record Spaces : Type 0 where
   pub registers : List ℕ
   pub msix : List ℕ
 
-unfoldable pub spacesOf : ℕ → World → Spaces
-spacesOf b w =
+unfoldable pub spaces_of : ℕ → World → Spaces
+spaces_of b w =
     record {
-      configuration = tabulate 256 (λ at. configurationByte w.hub.settings (slot_at w.hub b).peer at);
+      configuration = tabulate 256 (λ at. configuration_byte w.hub.settings (slot_at w.hub b).peer at);
       registers =
-          tabulate 1024 (λ k. registerValue w.hub.settings b (slot_at w.hub b).peer (registerAt (4 * k)));
-      msix = tabulate 1024 (λ k. tableWord w.hub.settings (slot_at w.hub b) (4 * k));
+          tabulate 1024 (λ k. register_value w.hub.settings b (slot_at w.hub b).peer (register_at (4 * k)));
+      msix = tabulate 1024 (λ k. table_word w.hub.settings (slot_at w.hub b) (4 * k));
     }

@@ -4,9 +4,9 @@ use Rattle.std.specs.Prelude.{ℕ, ◌+◌, ◌%◌, Bool, false, not, ◌||◌,
 use Rattle.common.specs.Tests.{Row, row, first}
 use Rattle.device.specs.declared.Settings.{Settings}
 use Rattle.device.specs.Call.{Act, Call}
-use Rattle.device.specs.Call.Act.{connect, disconnect, reset, configurationRead, configurationWrite}
-use Rattle.device.specs.Call.Act.{registerRead, registerWrite, msixRead, msixWrite, question, load, store}
-use Rattle.device.specs.Sections.{sectionOf, somewhere, mayStore}
+use Rattle.device.specs.Call.Act.{connect, disconnect, reset, configuration_read, configuration_write}
+use Rattle.device.specs.Call.Act.{register_read, register_write, msix_read, msix_write, question, load, store}
+use Rattle.device.specs.Sections.{section_of, somewhere, may_store}
 use Rattle.device.specs.SetUp.{total}
 use Rattle.device.specs.Sound.{sound}
 use Rattle.device.specs.World.{World, slot_at}
@@ -14,21 +14,21 @@ use Rattle.device.specs.World.{World, slot_at}
 -- What the host lends to a call (R4): nothing, the region, or the region and a delivery table of so many records.
 pub data Lent : Type 0 where
   nothing region : Lent
-  regionAndTable : (records : ℕ) → Lent
+  region_and_table : (records : ℕ) → Lent
 
-unfoldable pub lentTo : Act → Lent
-lentTo connect = Lent.nothing
-lentTo (disconnect n) = Lent.regionAndTable n
-lentTo (reset n) = Lent.regionAndTable n
-lentTo (configurationRead at w) = Lent.nothing
-lentTo (configurationWrite at w x) = Lent.nothing
-lentTo (registerRead at w) = Lent.nothing
-lentTo (registerWrite n at w x) = Lent.regionAndTable n
-lentTo (msixRead at w) = Lent.nothing
-lentTo (msixWrite at w x) = Lent.nothing
-lentTo (question at n) = Lent.nothing
-lentTo (load at n) = Lent.region
-lentTo (store at bs) = Lent.region
+unfoldable pub lent_to : Act → Lent
+lent_to connect = Lent.nothing
+lent_to (disconnect n) = Lent.region_and_table n
+lent_to (reset n) = Lent.region_and_table n
+lent_to (configuration_read at w) = Lent.nothing
+lent_to (configuration_write at w x) = Lent.nothing
+lent_to (register_read at w) = Lent.nothing
+lent_to (register_write n at w x) = Lent.region_and_table n
+lent_to (msix_read at w) = Lent.nothing
+lent_to (msix_write at w x) = Lent.nothing
+lent_to (question at n) = Lent.nothing
+lent_to (load at n) = Lent.region
+lent_to (store at bs) = Lent.region
 
 -- What a call reaches for: to become connected, nothing further, a space of 256 or 4096 bytes, or a range of the shared region,
 -- to be looked at or to be stored to.
@@ -39,31 +39,31 @@ pub data Access : Type 0 where
   shared : (offset length : ℕ) → Access
   storing : (offset length : ℕ) → Access
 
-unfoldable pub accessOf : Act → Access
-accessOf connect = Access.joining
-accessOf (disconnect n) = Access.none
-accessOf (reset n) = Access.none
-accessOf (configurationRead at w) = Access.configuration at w
-accessOf (configurationWrite at w x) = Access.configuration at w
-accessOf (registerRead at w) = Access.registers at w
-accessOf (registerWrite n at w x) = Access.registers at w
-accessOf (msixRead at w) = Access.registers at w
-accessOf (msixWrite at w x) = Access.registers at w
-accessOf (question at n) = Access.shared at n
-accessOf (load at n) = Access.shared at n
-accessOf (store at bs) = Access.storing at (length bs)
+unfoldable pub access_of : Act → Access
+access_of connect = Access.joining
+access_of (disconnect n) = Access.none
+access_of (reset n) = Access.none
+access_of (configuration_read at w) = Access.configuration at w
+access_of (configuration_write at w x) = Access.configuration at w
+access_of (register_read at w) = Access.registers at w
+access_of (register_write n at w x) = Access.registers at w
+access_of (msix_read at w) = Access.registers at w
+access_of (msix_write at w x) = Access.registers at w
+access_of (question at n) = Access.shared at n
+access_of (load at n) = Access.shared at n
+access_of (store at bs) = Access.storing at (length bs)
 
 -- 2: 'the lent region's length is not T'
-unfoldable pub wrongRegion : Settings → List ℕ → Lent → Bool
-wrongRegion s bytes Lent.nothing = false
-wrongRegion s bytes Lent.region = not (eqb (length bytes) (total s))
-wrongRegion s bytes (Lent.regionAndTable n) = not (eqb (length bytes) (total s))
+unfoldable pub wrong_region : Settings → List ℕ → Lent → Bool
+wrong_region s bytes Lent.nothing = false
+wrong_region s bytes Lent.region = not (eqb (length bytes) (total s))
+wrong_region s bytes (Lent.region_and_table n) = not (eqb (length bytes) (total s))
 
 -- 11: 'the lent delivery table has fewer than N records'
-unfoldable pub shortTable : Settings → Lent → Bool
-shortTable s Lent.nothing = false
-shortTable s Lent.region = false
-shortTable s (Lent.regionAndTable n) = ltb n s.peers
+unfoldable pub short_table : Settings → Lent → Bool
+short_table s Lent.nothing = false
+short_table s Lent.region = false
+short_table s (Lent.region_and_table n) = ltb n s.peers
 
 -- 4: 'the peer is not connected; for every call by or on it but connect'
 unfoldable pub missing : Bool → Access → Bool
@@ -84,13 +84,13 @@ present connected (Access.shared at n) = false
 present connected (Access.storing at n) = false
 
 -- 6: 'width not allowed', 'shared length 0'
-unfoldable pub wrongWidth : Access → Bool
-wrongWidth Access.joining = false
-wrongWidth Access.none = false
-wrongWidth (Access.configuration at w) = not (eqb w 1 || eqb w 2 || eqb w 4)
-wrongWidth (Access.registers at w) = not (eqb w 4)
-wrongWidth (Access.shared at n) = eqb n 0
-wrongWidth (Access.storing at n) = eqb n 0
+unfoldable pub wrong_width : Access → Bool
+wrong_width Access.joining = false
+wrong_width Access.none = false
+wrong_width (Access.configuration at w) = not (eqb w 1 || eqb w 2 || eqb w 4)
+wrong_width (Access.registers at w) = not (eqb w 4)
+wrong_width (Access.shared at n) = eqb n 0
+wrong_width (Access.storing at n) = eqb n 0
 
 -- 7: 'the offset is not a multiple of the width; never for shared bytes'
 unfoldable pub misaligned : Access → Bool
@@ -107,8 +107,8 @@ outside s Access.joining = false
 outside s Access.none = false
 outside s (Access.configuration at w) = ltb 256 (at + w)
 outside s (Access.registers at w) = ltb 4096 (at + w)
-outside s (Access.shared at n) = not (somewhere (sectionOf s at n))
-outside s (Access.storing at n) = not (somewhere (sectionOf s at n))
+outside s (Access.shared at n) = not (somewhere (section_of s at n))
+outside s (Access.storing at n) = not (somewhere (section_of s at n))
 
 -- 9: 'a store to the State Table or to another peer's output section'
 unfoldable pub forbidden : Settings → ℕ → Access → Bool
@@ -117,21 +117,21 @@ forbidden s who Access.none = false
 forbidden s who (Access.configuration at w) = false
 forbidden s who (Access.registers at w) = false
 forbidden s who (Access.shared at n) = false
-forbidden s who (Access.storing at n) = not (mayStore who (sectionOf s at n))
+forbidden s who (Access.storing at n) = not (may_store who (section_of s at n))
 
-unfoldable pub isConnected : World → ℕ → Bool
-isConnected w who = eqb (slot_at w.hub who).peer.connected 1
+unfoldable pub is_connected : World → ℕ → Bool
+is_connected w who = eqb (slot_at w.hub who).peer.connected 1
 
 -- The table, in the order of the checks.
 abbrev pub checks : World → ℕ → Lent → Access → List Row
 checks w who lent access =
     row 10 (not (sound w.hub))
-    ∷ row 2 (wrongRegion w.hub.settings w.region lent)
-    ∷ row 11 (shortTable w.hub.settings lent)
+    ∷ row 2 (wrong_region w.hub.settings w.region lent)
+    ∷ row 11 (short_table w.hub.settings lent)
     ∷ row 3 (leb w.hub.settings.peers who)
-    ∷ row 4 (missing (isConnected w who) access)
-    ∷ row 5 (present (isConnected w who) access)
-    ∷ row 6 (wrongWidth access)
+    ∷ row 4 (missing (is_connected w who) access)
+    ∷ row 5 (present (is_connected w who) access)
+    ∷ row 6 (wrong_width access)
     ∷ row 7 (misaligned access)
     ∷ row 8 (outside w.hub.settings access)
     ∷ row 9 (forbidden w.hub.settings who access)
@@ -139,4 +139,4 @@ checks w who lent access =
 
 -- the number of the first check that fails; 0 where the call is accepted
 unfoldable pub refusal : World → Call → ℕ
-refusal w c = first (checks w c.who (lentTo c.act) (accessOf c.act))
+refusal w c = first (checks w c.who (lent_to c.act) (access_of c.act))

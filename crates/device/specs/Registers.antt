@@ -5,30 +5,30 @@ use Rattle.device.specs.declared.Peer.{Peer}
 use Rattle.device.specs.declared.Settings.{Settings}
 
 pub data Register : Type 0 where
-  identity maximumPeers interruptControl doorbell state none : Register
+  identity maximumPeers interrupt_control doorbell state none : Register
 
-unfoldable pub registerAt : ℕ → Register
-registerAt at =
+unfoldable pub register_at : ℕ → Register
+register_at at =
     cond (eqb at 0x00) identity
     (cond (eqb at 0x04) maximumPeers
-    (cond (eqb at 0x08) interruptControl (cond (eqb at 0x0C) doorbell (cond (eqb at 0x10) state none))))
+    (cond (eqb at 0x08) interrupt_control (cond (eqb at 0x0C) doorbell (cond (eqb at 0x10) state none))))
 
 -- Command bit 1, Memory Space: the register region and the MSI-X region answer
-unfoldable pub memoryOn : Peer → Bool
-memoryOn p = bit 1 p.command
+unfoldable pub memory_on : Peer → Bool
+memory_on p = bit 1 p.command
 
 -- what both regions read while it is off
 abbrev pub unmapped : ℕ
 unmapped = 0xFFFFFFFF
 
 -- R45: where no register is, 0 is read, and so it is at the Doorbell
-unfoldable pub registerValue : Settings → ℕ → Peer → Register → ℕ
-registerValue s who p identity = who
-registerValue s who p maximumPeers = s.peers
-registerValue s who p interruptControl = p.interrupt
-registerValue s who p doorbell = 0
-registerValue s who p state = p.state
-registerValue s who p none = 0
+unfoldable pub register_value : Settings → ℕ → Peer → Register → ℕ
+register_value s who p identity = who
+register_value s who p maximumPeers = s.peers
+register_value s who p interrupt_control = p.interrupt
+register_value s who p doorbell = 0
+register_value s who p state = p.state
+register_value s who p none = 0
 
-unfoldable pub registerRead : Settings → ℕ → Peer → ℕ → ℕ
-registerRead s who p at = cond (memoryOn p) (registerValue s who p (registerAt at)) unmapped
+unfoldable pub register_read : Settings → ℕ → Peer → ℕ → ℕ
+register_read s who p at = cond (memory_on p) (register_value s who p (register_at at)) unmapped

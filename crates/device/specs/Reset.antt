@@ -4,8 +4,8 @@ use Rattle.device.specs.declared.Entry.{Entry}
 use Rattle.device.specs.declared.Peer.{Peer}
 
 -- the registers of a peer at reset; whether it is connected is no register, and is said beside
-abbrev pub resetPeer : ℕ → Peer
-resetPeer connected =
+abbrev pub reset_peer : ℕ → Peer
+reset_peer connected =
     record {
       connected = connected;
       command = 0;
@@ -18,5 +18,5 @@ resetPeer connected =
     }
 
 -- R49: 0, 0, 0, 1
-abbrev pub resetEntry : Entry
-resetEntry = record { low = 0; high = 0; payload = 0; control = 1 }
+abbrev pub reset_entry : Entry
+reset_entry = record { low = 0; high = 0; payload = 0; control = 1 }

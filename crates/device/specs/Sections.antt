@@ -4,7 +4,7 @@ use Rattle.device.specs.declared.SectionAnswer.{SectionAnswer}
 use Rattle.device.specs.declared.SectionKind.{SectionKind}
 use Rattle.device.specs.declared.SectionKind.TheVariants.{Nothing, StateTable, ReadWrite, Output}
 use Rattle.device.specs.declared.Settings.{Settings}
-use Rattle.device.specs.Ring.{peerId}
+use Rattle.device.specs.Ring.{peer_id}
 
 pub record Section : Type 0 where
   pub kind : SectionKind
@@ -17,7 +17,7 @@ section kind start size = record { kind = kind; start = start; size = size }
 -- R61: the output section of peer i at S + R + i * O, for n peers from i
 unfoldable pub outputs : Settings → ℕ → ℕ → List Section
 outputs s i zero = []
-outputs s i (suc n) = section (Output (peerId i)) (s.table + s.common + i * s.output) s.output ∷ outputs s (suc i) n
+outputs s i (suc n) = section (Output (peer_id i)) (s.table + s.common + i * s.output) s.output ∷ outputs s (suc i) n
 
 unfoldable pub sections : Settings → List Section
 sections s = section StateTable 0 s.table ∷ section ReadWrite s.table s.common ∷ outputs s 0 s.peers
@@ -26,25 +26,25 @@ sections s = section StateTable 0 s.table ∷ section ReadWrite s.table s.common
 abbrev pub holds : ℕ → ℕ → Section → Bool
 holds offset length x = leb x.start offset && leb (offset + length) (x.start + x.size)
 
-unfoldable pub sectionIn : ℕ → ℕ → List Section → SectionKind
-sectionIn offset length [] = Nothing
-sectionIn offset length (x ∷ xs) = cond (holds offset length x) x.kind (sectionIn offset length xs)
+unfoldable pub section_in : ℕ → ℕ → List Section → SectionKind
+section_in offset length [] = Nothing
+section_in offset length (x ∷ xs) = cond (holds offset length x) x.kind (section_in offset length xs)
 
-unfoldable pub sectionOf : Settings → ℕ → ℕ → SectionKind
-sectionOf s offset length = sectionIn offset length (sections s)
+unfoldable pub section_of : Settings → ℕ → ℕ → SectionKind
+section_of s offset length = section_in offset length (sections s)
 
 -- the numbers that stand for a section at the library's boundary: its kind, and its owner where it has one
-unfoldable pub kindNumber : SectionKind → ℕ
-kindNumber Nothing = 0
-kindNumber StateTable = 1
-kindNumber ReadWrite = 2
-kindNumber (Output owner) = 3
+unfoldable pub kind_number : SectionKind → ℕ
+kind_number Nothing = 0
+kind_number StateTable = 1
+kind_number ReadWrite = 2
+kind_number (Output owner) = 3
 
-unfoldable pub ownerNumber : SectionKind → ℕ
-ownerNumber Nothing = 0
-ownerNumber StateTable = 0
-ownerNumber ReadWrite = 0
-ownerNumber (Output owner) = owner.0
+unfoldable pub owner_number : SectionKind → ℕ
+owner_number Nothing = 0
+owner_number StateTable = 0
+owner_number ReadWrite = 0
+owner_number (Output owner) = owner.0
 
 unfoldable pub somewhere : SectionKind → Bool
 somewhere Nothing = false
@@ -53,15 +53,15 @@ somewhere ReadWrite = true
 somewhere (Output owner) = true
 
 -- R63: it may store to the read/write section and to its own output section
-unfoldable pub mayStore : ℕ → SectionKind → Bool
-mayStore who Nothing = false
-mayStore who StateTable = false
-mayStore who ReadWrite = true
-mayStore who (Output owner) = eqb owner.0 who
+unfoldable pub may_store : ℕ → SectionKind → Bool
+may_store who Nothing = false
+may_store who StateTable = false
+may_store who ReadWrite = true
+may_store who (Output owner) = eqb owner.0 who
 
 -- R31: no section, and no right to store
-abbrev pub noSection : SectionAnswer
-noSection = record { kind = Nothing; store = false }
+abbrev pub no_section : SectionAnswer
+no_section = record { kind = Nothing; store = false }
 
 unfoldable pub answer_of : ℕ → SectionKind → SectionAnswer
-answer_of who kind = record { kind = kind; store = mayStore who kind }
+answer_of who kind = record { kind = kind; store = may_store who kind }

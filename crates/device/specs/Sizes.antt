@@ -3,8 +3,8 @@
 -- Proofs use the laws of proofs/SizeLaws.antt and never these numbers themselves.
 use Rattle.std.specs.Prelude.{ℕ}
 
-unfoldable pub maxPeers : ℕ
-maxPeers = 64
+unfoldable pub max_peers : ℕ
+max_peers = 64
 
-unfoldable pub maxVectors : ℕ
-maxVectors = 16
+unfoldable pub max_vectors : ℕ
+max_vectors = 16

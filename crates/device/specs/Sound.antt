@@ -7,13 +7,13 @@ use Rattle.device.specs.declared.Entry.{Entry}
 use Rattle.device.specs.declared.Peer.{Peer}
 use Rattle.device.specs.declared.Settings.{Settings}
 use Rattle.device.specs.Configuration.{mask_of}
-use Rattle.device.specs.Msix.{addressMask, controlMask}
+use Rattle.device.specs.Msix.{address_mask, control_mask}
 use Rattle.device.specs.SetUp.{accepted}
 use Rattle.device.specs.World.{Hub, Slot, slot_at, entry_at}
 
 -- every fixed bit of a connected peer's registers is 0: no bit is set but those that a write can set
-unfoldable pub peerFixed : Settings → Peer → Bool
-peerFixed s p =
+unfoldable pub peer_fixed : Settings → Peer → Bool
+peer_fixed s p =
     every
     (only (mask_of s 0x04 2) p.command
     ∷ only (mask_of s 0x10 4) p.bar0
@@ -23,8 +23,8 @@ peerFixed s p =
     ∷ only 1 p.interrupt
     ∷ [])
 
-unfoldable pub peerReset : Peer → Bool
-peerReset p =
+unfoldable pub peer_reset : Peer → Bool
+peer_reset p =
     every
     (eqb p.connected 0
     ∷ eqb p.command 0
@@ -36,22 +36,22 @@ peerReset p =
     ∷ eqb p.state 0
     ∷ [])
 
-unfoldable pub entryFixed : Entry → Bool
-entryFixed e = every (only addressMask e.low ∷ only controlMask e.control ∷ [])
+unfoldable pub entry_fixed : Entry → Bool
+entry_fixed e = every (only address_mask e.low ∷ only control_mask e.control ∷ [])
 
-unfoldable pub entryReset : Entry → Bool
-entryReset e = every (eqb e.low 0 ∷ eqb e.high 0 ∷ eqb e.payload 0 ∷ eqb e.control 1 ∷ [])
+unfoldable pub entry_reset : Entry → Bool
+entry_reset e = every (eqb e.low 0 ∷ eqb e.high 0 ∷ eqb e.payload 0 ∷ eqb e.control 1 ∷ [])
 
 -- R34 of a connected peer, R35 of one that is not: its registers, and each of its entries
-unfoldable pub peerSound : Settings → Peer → Bool
-peerSound s p = cond (eqb p.connected 1) (peerFixed s p) (peerReset p)
+unfoldable pub peer_sound : Settings → Peer → Bool
+peer_sound s p = cond (eqb p.connected 1) (peer_fixed s p) (peer_reset p)
 
-unfoldable pub entrySound : Peer → Entry → Bool
-entrySound p e = cond (eqb p.connected 1) (entryFixed e) (entryReset e)
+unfoldable pub entry_sound : Peer → Entry → Bool
+entry_sound p e = cond (eqb p.connected 1) (entry_fixed e) (entry_reset e)
 
-unfoldable pub slotSound : Settings → Slot → Bool
-slotSound s slot = peerSound s slot.peer && below s.vectors (λ v. entrySound slot.peer (entry_at slot v))
+unfoldable pub slot_sound : Settings → Slot → Bool
+slot_sound s slot = peer_sound s slot.peer && below s.vectors (λ v. entry_sound slot.peer (entry_at slot v))
 
 -- every slot of every peer; there are no unused ones
 unfoldable pub sound : Hub → Bool
-sound hub = accepted hub.settings && below hub.settings.peers (λ i. slotSound hub.settings (slot_at hub i))
+sound hub = accepted hub.settings && below hub.settings.peers (λ i. slot_sound hub.settings (slot_at hub i))

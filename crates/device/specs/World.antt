@@ -3,7 +3,7 @@ use Rattle.std.specs.Prelude.{ℕ, List, [], get_or, set, replicate}
 use Rattle.device.specs.declared.Entry.{Entry}
 use Rattle.device.specs.declared.Peer.{Peer}
 use Rattle.device.specs.declared.Settings.{Settings}
-use Rattle.device.specs.Reset.{resetPeer, resetEntry}
+use Rattle.device.specs.Reset.{reset_peer, reset_entry}
 
 -- all that is kept of one peer: its registers and its MSI-X entries
 pub record Slot : Type 0 where
@@ -23,14 +23,14 @@ abbrev pub world : Hub → List ℕ → World
 world hub region = record { hub = hub; region = region }
 
 -- all numbers 0: what a list gives beyond its end
-abbrev pub zeroEntry : Entry
-zeroEntry = record { low = 0; high = 0; payload = 0; control = 0 }
+abbrev pub zero_entry : Entry
+zero_entry = record { low = 0; high = 0; payload = 0; control = 0 }
 
-unfoldable pub zeroSlot : Slot
-zeroSlot = record { peer = resetPeer 0; entries = [] }
+unfoldable pub zero_slot : Slot
+zero_slot = record { peer = reset_peer 0; entries = [] }
 
-abbrev pub zeroSettings : Settings
-zeroSettings =
+abbrev pub zero_settings : Settings
+zero_settings =
     record {
       peers = 0;
       vectors = 0;
@@ -44,26 +44,26 @@ zeroSettings =
     }
 
 -- the all-zero hub, which a refused set-up leaves (R18): N is 0, so it has no slot
-unfoldable pub zeroHub : Hub
-zeroHub = record { settings = zeroSettings; slots = [] }
+unfoldable pub zero_hub : Hub
+zero_hub = record { settings = zero_settings; slots = [] }
 
 -- a slot of so many vectors with all registers and entries at reset
-unfoldable pub resetSlot : (vectors connected : ℕ) → Slot
-resetSlot vectors connected = record { peer = resetPeer connected; entries = replicate vectors resetEntry }
+unfoldable pub reset_slot : (vectors connected : ℕ) → Slot
+reset_slot vectors connected = record { peer = reset_peer connected; entries = replicate vectors reset_entry }
 
 -- the slot of an id, and the entry of a vector
 abbrev pub slot_at : Hub → ℕ → Slot
-slot_at hub i = get_or hub.slots i zeroSlot
+slot_at hub i = get_or hub.slots i zero_slot
 
 abbrev pub entry_at : Slot → ℕ → Entry
-entry_at slot v = get_or slot.entries v zeroEntry
+entry_at slot v = get_or slot.entries v zero_entry
 
 -- the same with one part replaced
-abbrev pub withSlot : Hub → ℕ → Slot → Hub
-withSlot hub i slot = record { settings = hub.settings; slots = set hub.slots i slot }
+abbrev pub with_slot : Hub → ℕ → Slot → Hub
+with_slot hub i slot = record { settings = hub.settings; slots = set hub.slots i slot }
 
-abbrev pub withPeer : Slot → Peer → Slot
-withPeer slot peer = record { peer = peer; entries = slot.entries }
+abbrev pub with_peer : Slot → Peer → Slot
+with_peer slot peer = record { peer = peer; entries = slot.entries }
 
-abbrev pub withEntry : Slot → ℕ → Entry → Slot
-withEntry slot v entry = record { peer = slot.peer; entries = set slot.entries v entry }
+abbrev pub with_entry : Slot → ℕ → Entry → Slot
+with_entry slot v entry = record { peer = slot.peer; entries = set slot.entries v entry }

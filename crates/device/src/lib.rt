@@ -1,8 +1,8 @@
 // The data that the device keeps and hands over. What the device does with it is defined in specs/, in the order of the
 // rules; the theorems about that are in proofs/.
 ghost use Rattle.std.specs.Prelude.{◌≡◌};
-ghost use Rattle.device.specs.Sizes.{maxPeers, maxVectors};
-ghost use Rattle.device.specs.Reset.{resetPeer, resetEntry};
+ghost use Rattle.device.specs.Sizes.{max_peers, max_vectors};
+ghost use Rattle.device.specs.Reset.{reset_peer, reset_entry};
 
 // The most peers and vectors that a hub can be set up with. Proofs know these numbers only by name.
 pub const MAX_PEERS: usize = 64;
@@ -10,13 +10,13 @@ pub const MAX_PEERS: usize = 64;
 pub const MAX_VECTORS: usize = 16;
 
 pub fn max_peers() -> usize
-    ensures { result ≡ maxPeers }
+    ensures { result ≡ max_peers }
 {
     MAX_PEERS
 }
 
 pub fn max_vectors() -> usize
-    ensures { result ≡ maxVectors }
+    ensures { result ≡ max_vectors }
 {
     MAX_VECTORS
 }
@@ -81,7 +81,7 @@ impl Peer {
 
     // All registers at their reset values, of a peer that is connected (1) or not (0).
     pub fn reset(connected: u32) -> Self
-        ensures { result ≡ resetPeer connected }
+        ensures { result ≡ reset_peer connected }
     {
         Self {
             connected,
@@ -114,7 +114,7 @@ impl Entry {
     pub const CONTROL: u32 = 1;
 
     pub fn reset() -> Self
-        ensures { result ≡ resetEntry }
+        ensures { result ≡ reset_entry }
     {
         Self {
             low: Self::ADDRESS,

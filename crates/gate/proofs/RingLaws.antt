@@ -9,9 +9,9 @@ use borrow.Author.Tests.{ltb-true, lt-ltb, eq-eqb}
 use lib.Dec.{eqb, ltb}
 use lib.ListN.{length, get_or}
 use Rattle.common.proofs.ListLaws.{get_d_set}
-use Rattle.common.proofs.TestLaws.{every-false, every_true}
+use Rattle.common.proofs.TestLaws.{every_false, every_true}
 use Rattle.common.specs.Tests.{every}
-use Rattle.device.proofs.SetUpLaws.{accepted-facts}
+use Rattle.device.proofs.SetUpLaws.{accepted_facts}
 use Rattle.device.specs.declared.Delivery.{Delivery}
 use Rattle.device.specs.declared.Gate.{Gate}
 use Rattle.device.specs.declared.PeerId.{PeerId}
@@ -19,25 +19,25 @@ use Rattle.device.specs.declared.Settings.{Settings}
 use Rattle.device.specs.declared.Target.{Target}
 use Rattle.device.specs.declared.Target.TheVariants.{Live, Nobody}
 use Rattle.device.specs.declared.Vector.{Vector}
-use Rattle.device.specs.Ring.{Rung, rung, gateOf, opens, target, withInterrupt, afterDelivery, ringAt, ring}
+use Rattle.device.specs.Ring.{Rung, rung, gate_of, opens, target, with_interrupt, after_delivery, ring_at, ring}
 use Rattle.device.specs.SetUp.{accepted}
-use Rattle.device.specs.Sizes.{maxPeers}
-use Rattle.device.specs.World.{Hub, Slot, zeroSlot, slot_at, entry_at, withSlot, withPeer}
-use Rattle.words.proofs.LayoutLaws.{accepted-fits}
+use Rattle.device.specs.Sizes.{max_peers}
+use Rattle.device.specs.World.{Hub, Slot, zero_slot, slot_at, entry_at, with_slot, with_peer}
+use Rattle.words.proofs.LayoutLaws.{accepted_fits}
 use Rattle.words.proofs.SlotLaws.{slot_kept}
-use Rattle.words.specs.Layout.{fits, hubOf}
-use Rattle.gate.specs.PassedGate.{passedGate}
-use Rattle.gate.specs.RingOutcome.{sentAt, outcomeList, Usable, disarmed}
+use Rattle.words.specs.Layout.{fits, hub_of}
+use Rattle.gate.specs.PassedGate.{passed_gate}
+use Rattle.gate.specs.RingOutcome.{sent_at, outcome_list, Usable, disarmed}
 
 -- ids of a usable hub are few, and its words fit
-pub peer-below : (ws : List ℕ) (i : ℕ) → Usable ws → i < (hubOf ws).settings.peers → i < maxPeers
-peer-below ws i u l = omega (arith, (accepted-facts _ u.numbers).peers)
+pub peer_below : (ws : List ℕ) (i : ℕ) → Usable ws → i < (hub_of ws).settings.peers → i < max_peers
+peer_below ws i u l = omega (arith, (accepted_facts _ u.numbers).peers)
 
-pub usable-fits : (ws : List ℕ) → Usable ws → fits ws ≡ true
-usable-fits ws u = accepted-fits ws u.numbers
+pub usable_fits : (ws : List ℕ) → Usable ws → fits ws ≡ true
+usable_fits ws u = accepted_fits ws u.numbers
 
-pub usable-kept : (before after : List ℕ) → Usable before → (hubOf after).settings ≡ (hubOf before).settings → Usable after
-usable-kept before after u same = record { numbers = ap (λ (s : Settings). accepted s) same ∙ u.numbers }
+pub usable_kept : (before after : List ℕ) → Usable before → (hub_of after).settings ≡ (hub_of before).settings → Usable after
+usable_kept before after u same = record { numbers = ap (λ (s : Settings). accepted s) same ∙ u.numbers }
 
 -- a ring's two parts
 pub apart : (hub : Hub) (ds : List Delivery) {r : Rung} → rung hub ds ≡ r → (hub ≡ r.hub) × (ds ≡ r.deliveries)
@@ -47,14 +47,14 @@ apart hub ds e = (ap (λ (r : Rung). r.hub) e, ap (λ (r : Rung). r.deliveries) 
 abbrev switches : Gate → List Bool
 switches g = g.master ∷ g.enabled ∷ not g.masked ∷ not g.silenced ∷ g.interrupt ∷ []
 
-interrupt-on : (g : Gate) → opens g ≡ true → g.interrupt ≡ true
+interrupt_on : (g : Gate) → opens g ≡ true → g.interrupt ≡ true
 unfolding opens
-interrupt-on g o = every_true (switches g) o 4
+interrupt_on g o = every_true (switches g) o 4
 
 -- a delivered ring clears the gate's interrupt exactly in one-shot mode
-cleared : (g : Gate) → opens g ≡ true → (g.interrupt && not (passedGate g).interrupt) ≡ g.oneshot
-unfolding passedGate
-cleared g o = rw (o, interrupt-on g o) (not-not g.oneshot)
+cleared : (g : Gate) → opens g ≡ true → (g.interrupt && not (passed_gate g).interrupt) ≡ g.oneshot
+unfolding passed_gate
+cleared g o = rw (o, interrupt_on g o) (not-not g.oneshot)
 
 -- the tests that a target passes
 abbrev tests : Hub → PeerId → Vector → List Bool
@@ -67,10 +67,10 @@ tests hub t v =
 module _ (hub : Hub) (t : PeerId) (v : Vector) where
   pub nobody : (k : ℕ) → get_or (tests hub t v) k true ≡ false → Nobody ≡ target hub t v
   unfolding target
-  nobody k e = rw (every-false (tests hub t v) k e)
+  nobody k e = rw (every_false (tests hub t v) k e)
 
   pub live : t.0 < hub.settings.peers → (slot_at hub t.0).peer.connected ≡ 1 → v.0 < hub.settings.vectors
-      → Live (gateOf (slot_at hub t.0).peer (entry_at (slot_at hub t.0) v.0)) ≡ target hub t v
+      → Live (gate_of (slot_at hub t.0).peer (entry_at (slot_at hub t.0) v.0)) ≡ target hub t v
   unfolding target every
   live known connected few = rw (lt-ltb _ _ known, eq-eqb _ _ connected, lt-ltb _ _ few)
 
@@ -84,34 +84,34 @@ module _ (hub : Hub) (t : PeerId) (v : Vector) where
       by false f = let z : ◌≡◌ {A = ℕ} 0 1 = cc in absurd (omega arith)
 
   -- and one that is delivered
-  pub reached : outcomeList hub t v true ≡ (ring hub t v).deliveries → t.0 < hub.settings.peers
-  unfolding outcomeList ring ringAt
+  pub reached : outcome_list hub t v true ≡ (ring hub t v).deliveries → t.0 < hub.settings.peers
+  unfolding outcome_list ring ring_at
   reached e = by (target hub t v) refl
     where
       by : (x : Target) → target hub t v ≡ x → t.0 < hub.settings.peers
       by (Live gate) f = found gate (sym f)
       by Nobody f =
-          let n : outcomeList hub t v true ≡ [] = rw f at e in
+          let n : outcome_list hub t v true ≡ [] = rw f at e in
           let z : ◌≡◌ {A = ℕ} 0 1 = cc in absurd (omega arith)
 
   -- what a ring leaves: at nobody, and at a gate that is shut or open
-  pub unanswered : Nobody ≡ target hub t v → rung hub (outcomeList hub t v false) ≡ ring hub t v
-  unfolding ring ringAt outcomeList
+  pub unanswered : Nobody ≡ target hub t v → rung hub (outcome_list hub t v false) ≡ ring hub t v
+  unfolding ring ring_at outcome_list
   unanswered e = rw (← e)
 
   module _ (gate : Gate) (at : Live gate ≡ target hub t v) where
-    pub lost : opens gate ≡ false → rung hub (outcomeList hub t v false) ≡ ring hub t v
-    unfolding ring ringAt outcomeList
+    pub lost : opens gate ≡ false → rung hub (outcome_list hub t v false) ≡ ring hub t v
+    unfolding ring ring_at outcome_list
     lost o = rw (← at, o)
 
     pub answered : opens gate ≡ true
-        → rung (cond (gate.interrupt && not (passedGate gate).interrupt) (disarmed hub t.0) hub) (outcomeList hub t v true) ≡ ring hub t v
-    unfolding ring ringAt afterDelivery outcomeList sentAt
-    answered o = rw (cleared gate o, ← at, o) (ap (λ (h : Hub). rung h (sentAt hub v t.0 ∷ [])) (either gate.oneshot))
+        → rung (cond (gate.interrupt && not (passed_gate gate).interrupt) (disarmed hub t.0) hub) (outcome_list hub t v true) ≡ ring hub t v
+    unfolding ring ring_at after_delivery outcome_list sent_at
+    answered o = rw (cleared gate o, ← at, o) (ap (λ (h : Hub). rung h (sent_at hub v t.0 ∷ [])) (either gate.oneshot))
       where
         either : (b : Bool)
             → cond b (disarmed hub t.0) hub
-            ≡ withSlot hub t.0 (cond b (withPeer (slot_at hub t.0) (withInterrupt (slot_at hub t.0).peer 0)) (slot_at hub t.0))
+            ≡ with_slot hub t.0 (cond b (with_peer (slot_at hub t.0) (with_interrupt (slot_at hub t.0).peer 0)) (slot_at hub t.0))
         either true = refl
         either false = slot_kept hub t.0
 
@@ -119,9 +119,9 @@ module _ (hub : Hub) (t : PeerId) (v : Vector) where
 abbrev pub SameEntries : Hub → Hub → Type 0
 SameEntries before after = (i v : ℕ) → entry_at (slot_at after i) v ≡ entry_at (slot_at before i) v
 
-pub sent-same : (before after : Hub) (v : Vector) (t : ℕ) → SameEntries before after → sentAt after v t ≡ sentAt before v t
-unfolding sentAt
-sent-same before after v t same = rw (same t v.0)
+pub sent_same : (before after : Hub) (v : Vector) (t : ℕ) → SameEntries before after → sent_at after v t ≡ sent_at before v t
+unfolding sent_at
+sent_same before after v t same = rw (same t v.0)
 
 -- rings keep the settings and the entries, and deliver at most so many interrupts
 pub record Kept (hub : Hub) (n : ℕ) (r : Rung) : Type 0 where
@@ -133,28 +133,28 @@ pub none_kept : (hub : Hub) (n : ℕ) → Kept hub n (rung hub [])
 none_kept hub n = record { settings = refl; entries = λ i v. refl; few = omega arith }
 
 module _ (hub : Hub) (t : PeerId) (v : Vector) where
-  slot-entries : (gate : Gate) (slot : Slot) → (afterDelivery gate slot).entries ≡ slot.entries
-  unfolding afterDelivery
-  slot-entries gate slot = by gate.oneshot
+  slot_entries : (gate : Gate) (slot : Slot) → (after_delivery gate slot).entries ≡ slot.entries
+  unfolding after_delivery
+  slot_entries gate slot = by gate.oneshot
     where
-      by : (b : Bool) → (cond b (withPeer slot (withInterrupt slot.peer 0)) slot).entries ≡ slot.entries
+      by : (b : Bool) → (cond b (with_peer slot (with_interrupt slot.peer 0)) slot).entries ≡ slot.entries
       by true = refl
       by false = refl
 
-  at-entries : (gate : Gate) → SameEntries hub (withSlot hub t.0 (afterDelivery gate (slot_at hub t.0)))
-  at-entries gate i w =
-      get_d_set (λ s. entry_at s w ≡ entry_at (slot_at hub i) w) hub.slots t.0 i _ zeroSlot (λ e. rw (e, slot-entries gate (slot_at hub t.0))) refl
+  at_entries : (gate : Gate) → SameEntries hub (with_slot hub t.0 (after_delivery gate (slot_at hub t.0)))
+  at_entries gate i w =
+      get_d_set (λ s. entry_at s w ≡ entry_at (slot_at hub i) w) hub.slots t.0 i _ zero_slot (λ e. rw (e, slot_entries gate (slot_at hub t.0))) refl
 
-  either-kept : (b : Bool) (gate : Gate) (d : Delivery) →
-      Kept hub 1 (cond b (rung (withSlot hub t.0 (afterDelivery gate (slot_at hub t.0))) (d ∷ [])) (rung hub []))
-  either-kept true gate d = record { settings = refl; entries = at-entries gate; few = omega arith }
-  either-kept false gate d = none_kept hub 1
+  either_kept : (b : Bool) (gate : Gate) (d : Delivery) →
+      Kept hub 1 (cond b (rung (with_slot hub t.0 (after_delivery gate (slot_at hub t.0))) (d ∷ [])) (rung hub []))
+  either_kept true gate d = record { settings = refl; entries = at_entries gate; few = omega arith }
+  either_kept false gate d = none_kept hub 1
 
-  at-kept : (target : Target) → Kept hub 1 (ringAt hub t v target)
-  unfolding ringAt
-  at-kept Nobody = none_kept hub 1
-  at-kept (Live gate) = either-kept (opens gate) gate _
+  at_kept : (target : Target) → Kept hub 1 (ring_at hub t v target)
+  unfolding ring_at
+  at_kept Nobody = none_kept hub 1
+  at_kept (Live gate) = either_kept (opens gate) gate _
 
-  pub ring-kept : Kept hub 1 (ring hub t v)
+  pub ring_kept : Kept hub 1 (ring hub t v)
   unfolding ring
-  ring-kept = at-kept (target hub t v)
+  ring_kept = at_kept (target hub t v)

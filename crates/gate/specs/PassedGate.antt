@@ -4,8 +4,8 @@ use Rattle.device.specs.declared.Gate.{Gate}
 use Rattle.device.specs.Ring.{opens}
 
 -- the interrupt is cleared where the ring is delivered and one-shot is on
-unfoldable pub passedGate : Gate → Gate
-passedGate g =
+unfoldable pub passed_gate : Gate → Gate
+passed_gate g =
     record {
       master = g.master;
       enabled = g.enabled;

@@ -3,23 +3,23 @@ use Rattle.std.specs.Prelude.{Bool, true, cond, List, [], ◌∷◌, ◌≡◌, 
 use Rattle.device.specs.declared.Delivery.{Delivery}
 use Rattle.device.specs.declared.PeerId.{PeerId}
 use Rattle.device.specs.declared.Vector.{Vector}
-use Rattle.device.specs.Ring.{peerId, deliveryOf, withInterrupt}
+use Rattle.device.specs.Ring.{peer_id, delivery_of, with_interrupt}
 use Rattle.device.specs.SetUp.{accepted}
-use Rattle.device.specs.World.{Hub, slot_at, entry_at, withSlot, withPeer}
-use Rattle.words.specs.Layout.{hubOf}
+use Rattle.device.specs.World.{Hub, slot_at, entry_at, with_slot, with_peer}
+use Rattle.words.specs.Layout.{hub_of}
 
 -- the delivery of a vector at an id, from the target's entry
-unfoldable pub sentAt : Hub → Vector → ℕ → Delivery
-sentAt hub v t = deliveryOf (peerId t) v (entry_at (slot_at hub t) v.0)
+unfoldable pub sent_at : Hub → Vector → ℕ → Delivery
+sent_at hub v t = delivery_of (peer_id t) v (entry_at (slot_at hub t) v.0)
 
 -- a ring's deliveries, by whether it is delivered: one or none
-unfoldable pub outcomeList : Hub → PeerId → Vector → Bool → List Delivery
-outcomeList hub t v delivered = cond delivered (sentAt hub v t.0 ∷ []) []
+unfoldable pub outcome_list : Hub → PeerId → Vector → Bool → List Delivery
+outcome_list hub t v delivered = cond delivered (sent_at hub v t.0 ∷ []) []
 
 -- words that are a hub with accepted settings
 pub record Usable (ws : List ℕ) : Type 0 where
-  pub numbers : accepted (hubOf ws).settings ≡ true
+  pub numbers : accepted (hub_of ws).settings ≡ true
 
 -- a hub with Interrupt Control 0 at one id
 abbrev pub disarmed : Hub → ℕ → Hub
-disarmed hub i = withSlot hub i (withPeer (slot_at hub i) (withInterrupt (slot_at hub i).peer 0))
+disarmed hub i = with_slot hub i (with_peer (slot_at hub i) (with_interrupt (slot_at hub i).peer 0))

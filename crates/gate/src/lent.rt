@@ -1,14 +1,14 @@
 // A ring at a gate that is lent: the gate changes where it stands.
 ghost use Rattle.std.specs.Prelude.{◌≡◌};
 ghost use Rattle.device.specs.Ring.{opens};
-ghost use Rattle.gate.specs.PassedGate.{passedGate};
+ghost use Rattle.gate.specs.PassedGate.{passed_gate};
 
 use super::Passed;
 use device::Gate;
 
 // The answer is whether the ring is delivered.
 pub fn pass(g: &mut Gate) -> bool
-    ensures { (result ≡ opens g.old) × (g.new ≡ passedGate g.old) }
+    ensures { (result ≡ opens g.old) × (g.new ≡ passed_gate g.old) }
 {
     let was = *g;
     *g = super::passed_gate(was);
@@ -17,7 +17,7 @@ pub fn pass(g: &mut Gate) -> bool
 
 // The gate is lent from a local, so callers pass it by value.
 pub fn pass_local(g: Gate) -> Passed
-    ensures { result ≡ record { delivered = opens g; gate = passedGate g } }
+    ensures { result ≡ record { delivered = opens g; gate = passed_gate g } }
 {
     let mut gate = g;
     let delivered = pass(&mut gate);

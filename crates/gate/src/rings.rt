@@ -2,14 +2,14 @@
 ghost use Rattle.std.specs.Prelude.{cond, ◌≡◌};
 ghost use Rattle.device.specs.Ring;
 ghost use Rattle.device.specs.World.{slot_at, entry_at};
-ghost use Rattle.words.specs.Layout.{hubOf, Known, KnownVector};
-ghost use Rattle.gate.specs.RingOutcome.{outcomeList, Usable, disarmed};
+ghost use Rattle.words.specs.Layout.{hub_of, Known, KnownVector};
+ghost use Rattle.gate.specs.RingOutcome.{outcome_list, Usable, disarmed};
 
 use device::{Entry, PeerId, Target, Vector};
 
 fn entry_of(hub: &[u32], t: PeerId, v: Vector) -> Entry
     requires { Known hub.now t.0 × KnownVector hub.now v.0 }
-    ensures { result ≡ entry_at (slot_at (hubOf hub.now) t.0) v.0 }
+    ensures { result ≡ entry_at (slot_at (hub_of hub.now) t.0) v.0 }
 {
     words::entry(hub, t.0 as usize, v.0 as usize)
 }
@@ -17,7 +17,7 @@ fn entry_of(hub: &[u32], t: PeerId, v: Vector) -> Entry
 // Either a live peer with that vector, or nobody.
 fn target(hub: &[u32], t: PeerId, v: Vector) -> Target
     requires { Usable hub.now }
-    ensures { result ≡ Ring.target (hubOf hub.now) t v }
+    ensures { result ≡ Ring.target (hub_of hub.now) t v }
 {
     let s = words::settings(hub);
     if s.peers <= t.0 as u64 {
@@ -36,7 +36,7 @@ fn target(hub: &[u32], t: PeerId, v: Vector) -> Target
 // Interrupt Control becomes 0 where a delivery was made in one-shot mode.
 fn disarm(hub: &mut [u32], t: PeerId, clear: bool)
     requires { Known hub.old t.0 }
-    ensures { hubOf hub.new ≡ cond clear (disarmed (hubOf hub.old) t.0) (hubOf hub.old) }
+    ensures { hub_of hub.new ≡ cond clear (disarmed (hub_of hub.old) t.0) (hub_of hub.old) }
 {
     if !clear {
         return;
@@ -50,8 +50,8 @@ fn disarm(hub: &mut [u32], t: PeerId, clear: bool)
 // The answer is whether the ring is delivered.
 pub fn ring(hub: &mut [u32], t: PeerId, v: Vector) -> bool
     requires { Usable hub.old }
-    ensures hub { hubOf hub.new ≡ (Ring.ring (hubOf hub.old) t v).hub }
-    ensures deliveries { outcomeList (hubOf hub.old) t v result ≡ (Ring.ring (hubOf hub.old) t v).deliveries }
+    ensures hub { hub_of hub.new ≡ (Ring.ring (hub_of hub.old) t v).hub }
+    ensures deliveries { outcome_list (hub_of hub.old) t v result ≡ (Ring.ring (hub_of hub.old) t v).deliveries }
 {
     let Target::Live(gate) = target(hub, t, v) else {
         return false;

@@ -1,13 +1,13 @@
 // The switches of a target.
 ghost use Rattle.std.specs.Prelude.{◌≡◌};
-ghost use Rattle.device.specs.Ring.{gateOf, opens};
-ghost use Rattle.gate.specs.PassedGate.{passedGate};
+ghost use Rattle.device.specs.Ring.{gate_of, opens};
+ghost use Rattle.gate.specs.PassedGate.{passed_gate};
 
 use device::{Entry, Gate, Peer};
 
 // Bit k of a word is `word / 2^k % 2`; bit 0 is written like the others.
 pub fn gate_of(p: Peer, e: Entry) -> Gate
-    ensures { result ≡ gateOf p e }
+    ensures { result ≡ gate_of p e }
 {
     Gate {
         master: p.command / 4 % 2 == 1,
@@ -28,7 +28,7 @@ pub fn opens(g: Gate) -> bool
 
 // The gate after a ring: one that is delivered in one-shot mode clears the interrupt.
 pub fn passed_gate(g: Gate) -> Gate
-    ensures { result ≡ passedGate g }
+    ensures { result ≡ passed_gate g }
 {
     let clear = opens(g) & g.oneshot;
     Gate {

@@ -10,10 +10,10 @@ use Rattle.common.specs.Tests.{row, first}
 use Rattle.device.specs.declared.Reply.{Reply}
 use Rattle.device.specs.Sound.{sound}
 use Rattle.device.specs.World.{Hub, slot_at}
-use Rattle.hub.specs.Admission.{joiningRows}
-use Rattle.hub.specs.Queries.{connectedAnswer, byConnect, ConnectedByConnect}
-use Rattle.hub.proofs.RefusalLaws.{connect-refusal}
-use Rattle.hub.proofs.ReplyLaws.{refusedBy}
+use Rattle.hub.specs.Admission.{joining_rows}
+use Rattle.hub.specs.Queries.{connected_answer, by_connect, ConnectedByConnect}
+use Rattle.hub.proofs.RefusalLaws.{connect_refusal}
+use Rattle.hub.proofs.ReplyLaws.{refused_by}
 
 abbrev yes : Reply
 yes = record { number = 0; value = 1 }
@@ -22,8 +22,8 @@ yes = record { number = 0; value = 1 }
 module _ (hub : Hub) (who : ℕ) where
   abbrev Parts : Type 0
   Parts =
-      (first (joiningRows hub who) ≡ 5 → yes ≡ connectedAnswer hub who)
-      × ((first (joiningRows hub who) ≡ 5 → ⊥) → refusedBy (first (joiningRows hub who)) ≡ connectedAnswer hub who)
+      (first (joining_rows hub who) ≡ 5 → yes ≡ connected_answer hub who)
+      × ((first (joining_rows hub who) ≡ 5 → ⊥) → refused_by (first (joining_rows hub who)) ≡ connected_answer hub who)
 
   by_tests : (s l c : Bool) → sound hub ≡ s → leb hub.settings.peers who ≡ l → eqb (slot_at hub who).peer.connected 1 ≡ c → Parts
   unfolding first
@@ -35,16 +35,16 @@ module _ (hub : Hub) (who : ℕ) where
   parts : Parts
   parts = by_tests _ _ _ refl refl refl
 
-pub connected-yes : (hub : Hub) (who number : ℕ) → number ≡ first (joiningRows hub who) → number ≡ 5 → yes ≡ connectedAnswer hub who
-connected-yes hub who number e five = (parts hub who).0 (sym e ∙ five)
+pub connected_yes : (hub : Hub) (who number : ℕ) → number ≡ first (joining_rows hub who) → number ≡ 5 → yes ≡ connected_answer hub who
+connected_yes hub who number e five = (parts hub who).0 (sym e ∙ five)
 
-pub connected-no : (hub : Hub) (who number : ℕ) → number ≡ first (joiningRows hub who) → (number ≡ 5 → ⊥) →
-    refusedBy number ≡ connectedAnswer hub who
-connected-no hub who number e some = rw e ((parts hub who).1 (λ five. some (e ∙ five)))
+pub connected_no : (hub : Hub) (who number : ℕ) → number ≡ first (joining_rows hub who) → (number ≡ 5 → ⊥) →
+    refused_by number ≡ connected_answer hub who
+connected_no hub who number e some = rw e ((parts hub who).1 (λ five. some (e ∙ five)))
 
-pub connected-by-connect : ConnectedByConnect
-connected-by-connect hub region who = rw (connect-refusal hub region who) (by (eqb (first (joiningRows hub who)) 5) refl)
+pub connected_by_connect : ConnectedByConnect
+connected_by_connect hub region who = rw (connect_refusal hub region who) (by (eqb (first (joining_rows hub who)) 5) refl)
   where
-    by : (t : Bool) → eqb (first (joiningRows hub who)) 5 ≡ t → connectedAnswer hub who ≡ byConnect (first (joiningRows hub who))
+    by : (t : Bool) → eqb (first (joining_rows hub who)) 5 ≡ t → connected_answer hub who ≡ by_connect (first (joining_rows hub who))
     by true e = rw e (sym ((parts hub who).0 (eqb-true _ _ e)))
     by false e = rw e (sym ((parts hub who).1 (eqb-false _ _ e)))

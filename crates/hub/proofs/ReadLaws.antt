@@ -7,27 +7,27 @@ use lib.Dec.{eqb}
 use Rattle.common.specs.Tests.{first}
 use Rattle.device.specs.Call.{call}
 use Rattle.device.specs.Effect.{effect}
-use Rattle.device.specs.Msix.{msixRead}
-use Rattle.device.specs.Registers.{memoryOn, registerRead, unmapped}
-use Rattle.device.specs.Refusal.{lentTo, accessOf}
-use Rattle.device.specs.Step.{effectIn}
+use Rattle.device.specs.Msix.{msix_read}
+use Rattle.device.specs.Registers.{memory_on, register_read, unmapped}
+use Rattle.device.specs.Refusal.{lent_to, access_of}
+use Rattle.device.specs.Step.{effect_in}
 use Rattle.device.specs.World.{World, slot_at}
-use Rattle.words.specs.Layout.{hubOf}
+use Rattle.words.specs.Layout.{hub_of}
 use Rattle.hub.specs.declared.Lending.{Lending}
-use Rattle.hub.specs.Admission.{nothingLent, admission, spaceRows}
-use Rattle.hub.specs.Reads.{regionRead}
-use Rattle.hub.proofs.RefusalLaws.{Checked, region-checked}
+use Rattle.hub.specs.Admission.{nothing_lent, admission, space_rows}
+use Rattle.hub.specs.Reads.{region_read}
+use Rattle.hub.proofs.RefusalLaws.{Checked, region_checked}
 
-pub region-read-checked : (ws : List ℕ) (id : ℕ) (table : Bool) (at w n : ℕ) (lent : Lending) → lent ≡ nothingLent →
-    n ≡ first (admission (hubOf ws) lent id ++ spaceRows 4096 (eqb w 4) at w) →
-    Checked ws (call id (regionRead table at w)) n
-unfolding lentTo accessOf
-region-read-checked ws id true at w n lent none e = region-checked ws id _ at w n lent refl refl none e
-region-read-checked ws id false at w n lent none e = region-checked ws id _ at w n lent refl refl none e
+pub region_read_checked : (ws : List ℕ) (id : ℕ) (table : Bool) (at w n : ℕ) (lent : Lending) → lent ≡ nothing_lent →
+    n ≡ first (admission (hub_of ws) lent id ++ space_rows 4096 (eqb w 4) at w) →
+    Checked ws (call id (region_read table at w)) n
+unfolding lent_to access_of
+region_read_checked ws id true at w n lent none e = region_checked ws id _ at w n lent refl refl none e
+region_read_checked ws id false at w n lent none e = region_checked ws id _ at w n lent refl refl none e
 
 -- with Command bit 1 off, both are all ones
-pub unmapped-read : (w : World) (id : ℕ) (table : Bool) (at width : ℕ) → memoryOn (slot_at w.hub id).peer ≡ false →
-    unmapped ≡ (effectIn w (call id (regionRead table at width))).value
-unfolding effect msixRead registerRead
-unmapped-read w id true at width off = rw off
-unmapped-read w id false at width off = rw off
+pub unmapped_read : (w : World) (id : ℕ) (table : Bool) (at width : ℕ) → memory_on (slot_at w.hub id).peer ≡ false →
+    unmapped ≡ (effect_in w (call id (region_read table at width))).value
+unfolding effect msix_read register_read
+unmapped_read w id true at width off = rw off
+unmapped_read w id false at width off = rw off

@@ -6,66 +6,66 @@ use Rattle.device.specs.declared.Reply.{Reply}
 use Rattle.device.specs.declared.SectionReply.{SectionReply}
 use Rattle.device.specs.Call.{Call}
 use Rattle.device.specs.Refusal.{refusal}
-use Rattle.device.specs.Sections.{noSection}
-use Rattle.device.specs.Step.{Outcome, step, refused, replyOf, sectionReplyOf, effectIn, runAll}
+use Rattle.device.specs.Sections.{no_section}
+use Rattle.device.specs.Step.{Outcome, step, refused, reply_of, section_reply_of, effect_in, run_all}
 use Rattle.device.specs.World.{World, world}
-use Rattle.device.proofs.StepLaws.{refused-changes-nothing, accepted-effect}
-use Rattle.words.specs.Layout.{hubOf}
+use Rattle.device.proofs.StepLaws.{refused_changes_nothing, accepted_effect}
+use Rattle.words.specs.Layout.{hub_of}
 use Rattle.hub.specs.Promises.{Answers, Changes}
 use Rattle.hub.proofs.RefusalLaws.{Checked}
 
-abbrev pub refusedBy : ℕ → Reply
-refusedBy n = record { number = n; value = 0 }
+abbrev pub refused_by : ℕ → Reply
+refused_by n = record { number = n; value = 0 }
 
-pub step-refused : (w : World) (c : Call) (n : ℕ) → refusal w c ≡ n → (n ≡ 0 → ⊥) → step w c ≡ refused n w
-step-refused w c n e h =
-    refused-changes-nothing w c (λ z. h (sym e ∙ z)) ∙ ap (λ (k : ℕ). refused k w) e
+pub step_refused : (w : World) (c : Call) (n : ℕ) → refusal w c ≡ n → (n ≡ 0 → ⊥) → step w c ≡ refused n w
+step_refused w c n e h =
+    refused_changes_nothing w c (λ z. h (sym e ∙ z)) ∙ ap (λ (k : ℕ). refused k w) e
 
-pub reply-refused : (w : World) (c : Call) (n : ℕ) → refusal w c ≡ n → (n ≡ 0 → ⊥) → refusedBy n ≡ replyOf (step w c)
-reply-refused w c n e h = sym (ap (λ (o : Outcome). replyOf o) (step-refused w c n e h))
+pub reply_refused : (w : World) (c : Call) (n : ℕ) → refusal w c ≡ n → (n ≡ 0 → ⊥) → refused_by n ≡ reply_of (step w c)
+reply_refused w c n e h = sym (ap (λ (o : Outcome). reply_of o) (step_refused w c n e h))
 
-pub reply-accepted : (w : World) (c : Call) (value : ℕ) → refusal w c ≡ 0 → value ≡ (effectIn w c).value →
-    ◌≡◌ {A = Reply} (record { number = 0; value = value }) (replyOf (step w c))
-reply-accepted w c value e v = rw v (sym (ap (λ (o : Outcome). replyOf o) (accepted-effect w c e)))
+pub reply_accepted : (w : World) (c : Call) (value : ℕ) → refusal w c ≡ 0 → value ≡ (effect_in w c).value →
+    ◌≡◌ {A = Reply} (record { number = 0; value = value }) (reply_of (step w c))
+reply_accepted w c value e v = rw v (sym (ap (λ (o : Outcome). reply_of o) (accepted_effect w c e)))
 
-pub question-refused : (w : World) (c : Call) (n : ℕ) → refusal w c ≡ n → (n ≡ 0 → ⊥) →
-    ◌≡◌ {A = SectionReply} (record { reply = refusedBy n; section = noSection }) (sectionReplyOf (step w c))
-question-refused w c n e h = sym (ap (λ (o : Outcome). sectionReplyOf o) (step-refused w c n e h))
+pub question_refused : (w : World) (c : Call) (n : ℕ) → refusal w c ≡ n → (n ≡ 0 → ⊥) →
+    ◌≡◌ {A = SectionReply} (record { reply = refused_by n; section = no_section }) (section_reply_of (step w c))
+question_refused w c n e h = sym (ap (λ (o : Outcome). section_reply_of o) (step_refused w c n e h))
 
-pub question-accepted : (w : World) (c : Call) → refusal w c ≡ 0 →
+pub question_accepted : (w : World) (c : Call) → refusal w c ≡ 0 →
     ◌≡◌ {A = SectionReply}
-    (record { reply = record { number = 0; value = (effectIn w c).value }; section = (effectIn w c).answer })
-    (sectionReplyOf (step w c))
-question-accepted w c e = sym (ap (λ (o : Outcome). sectionReplyOf o) (accepted-effect w c e))
+    (record { reply = record { number = 0; value = (effect_in w c).value }; section = (effect_in w c).answer })
+    (section_reply_of (step w c))
+question_accepted w c e = sym (ap (λ (o : Outcome). section_reply_of o) (accepted_effect w c e))
 
 -- A read: refused, and accepted.
-pub answers-refused : (ws : List ℕ) (c : Call) (n : ℕ) (r : Reply) → Checked ws c n → (n ≡ 0 → ⊥) → r ≡ refusedBy n →
+pub answers_refused : (ws : List ℕ) (c : Call) (n : ℕ) (r : Reply) → Checked ws c n → (n ≡ 0 → ⊥) → r ≡ refused_by n →
     Answers ws c r
-answers-refused ws c n r e some a = λ region. a ∙ reply-refused _ c n (e region) some
+answers_refused ws c n r e some a = λ region. a ∙ reply_refused _ c n (e region) some
 
-pub answers-accepted : (ws : List ℕ) (c : Call) (n value : ℕ) → Checked ws c n → n ≡ 0 →
-    ((region : List ℕ) → value ≡ (effectIn (world (hubOf ws) region) c).value) →
+pub answers_accepted : (ws : List ℕ) (c : Call) (n value : ℕ) → Checked ws c n → n ≡ 0 →
+    ((region : List ℕ) → value ≡ (effect_in (world (hub_of ws) region) c).value) →
     Answers ws c (record { number = 0; value = value })
-answers-accepted ws c n value e z v = λ region. reply-accepted _ c value (e region ∙ z) (v region)
+answers_accepted ws c n value e z v = λ region. reply_accepted _ c value (e region ∙ z) (v region)
 
 -- A call that changes the hub and is not lent the region: refused, and accepted.
-pub changes-refused : (ws : List ℕ) (c : Call) (n : ℕ) (r : Reply) → Checked ws c n → (n ≡ 0 → ⊥) → r ≡ refusedBy n →
+pub changes_refused : (ws : List ℕ) (c : Call) (n : ℕ) (r : Reply) → Checked ws c n → (n ≡ 0 → ⊥) → r ≡ refused_by n →
     Changes ws ws c r
-changes-refused ws c n r e some a =
+changes_refused ws c n r e some a =
     record {
-      reply = λ region. a ∙ reply-refused _ c n (e region) some;
-      hub = λ region. sym (ap (λ (o : Outcome). o.world.hub) (step-refused _ c n (e region) some));
+      reply = λ region. a ∙ reply_refused _ c n (e region) some;
+      hub = λ region. sym (ap (λ (o : Outcome). o.world.hub) (step_refused _ c n (e region) some));
       kept = λ p. refl;
     }
 
-pub changes-accepted : (before after : List ℕ) (c : Call) (n : ℕ) (r : Reply) → Checked before c n → n ≡ 0 → r ≡ refusedBy 0 →
-    ((region : List ℕ) → 0 ≡ (effectIn (world (hubOf before) region) c).value) →
+pub changes_accepted : (before after : List ℕ) (c : Call) (n : ℕ) (r : Reply) → Checked before c n → n ≡ 0 → r ≡ refused_by 0 →
+    ((region : List ℕ) → 0 ≡ (effect_in (world (hub_of before) region) c).value) →
     ((region : List ℕ) →
-    hubOf after ≡ (runAll c.who (world (hubOf before) region) (effectIn (world (hubOf before) region) c).operations).world.hub) →
+    hub_of after ≡ (run_all c.who (world (hub_of before) region) (effect_in (world (hub_of before) region) c).operations).world.hub) →
     Changes before after c r
-changes-accepted before after c n r e z a value hub =
+changes_accepted before after c n r e z a value hub =
     record {
-      reply = λ region. a ∙ reply-accepted _ c 0 (e region ∙ z) (value region);
-      hub = λ region. hub region ∙ sym (ap (λ (o : Outcome). o.world.hub) (accepted-effect _ c (e region ∙ z)));
+      reply = λ region. a ∙ reply_accepted _ c 0 (e region ∙ z) (value region);
+      hub = λ region. hub region ∙ sym (ap (λ (o : Outcome). o.world.hub) (accepted_effect _ c (e region ∙ z)));
       kept = λ p. absurd (p (ap (λ (x : Reply). x.number) a));
     }

@@ -6,21 +6,21 @@ use mathlib.Core.Path.{◌≡◌}
 use native.Mathlib.Omega.{arith}
 use borrow.Author.Tests.{ne_eqb}
 use Rattle.device.specs.declared.Settings.{Settings}
-use Rattle.device.specs.SetUp.{accepted, hubAfterSetUp, regionAfterSetUp}
-use Rattle.device.specs.World.{zeroHub}
-use Rattle.device.proofs.SetUpLaws.{accepted-facts, table-small, common-small, output-small}
-use Rattle.device.proofs.SizeLaws.{maxPeers-small, maxVectors-small}
+use Rattle.device.specs.SetUp.{accepted, hub_after_set_up, region_after_set_up}
+use Rattle.device.specs.World.{zero_hub}
+use Rattle.device.proofs.SetUpLaws.{accepted_facts, table_small, common_small, output_small}
+use Rattle.device.proofs.SizeLaws.{max_peers_small, max_vectors_small}
 use Rattle.words.specs.Layout.{Storable}
 
 pub storable : (s : Settings) → accepted s ≡ true → Storable s
 storable s e =
-    let f = accepted-facts s e in
+    let f = accepted_facts s e in
     record {
-      peers = omega (arith, f.peers, maxPeers-small);
-      vectors = omega (arith, f.vectors, maxVectors-small);
-      table = omega (arith, table-small s f);
-      common = omega (arith, common-small s f);
-      output = omega (arith, output-small s f);
+      peers = omega (arith, f.peers, max_peers_small);
+      vectors = omega (arith, f.vectors, max_vectors_small);
+      table = omega (arith, table_small s f);
+      common = omega (arith, common_small s f);
+      output = omega (arith, output_small s f);
       protocol = omega (arith, f.protocol);
       vendor = omega (arith, f.vendor);
       subsystem = omega (arith, f.subsystem);
@@ -28,8 +28,8 @@ storable s e =
       less = f.vectors;
     }
 
-pub hub-refused : (n : ℕ) (s : Settings) → (n ≡ 0 → ⊥) → hubAfterSetUp n s ≡ zeroHub
-hub-refused n s h = rw (ne_eqb n 0 h)
+pub hub_refused : (n : ℕ) (s : Settings) → (n ≡ 0 → ⊥) → hub_after_set_up n s ≡ zero_hub
+hub_refused n s h = rw (ne_eqb n 0 h)
 
-pub region-refused : (n : ℕ) (region : List ℕ) → (n ≡ 0 → ⊥) → regionAfterSetUp n region ≡ region
-region-refused n region h = rw (ne_eqb n 0 h)
+pub region_refused : (n : ℕ) (region : List ℕ) → (n ≡ 0 → ⊥) → region_after_set_up n region ≡ region
+region_refused n region h = rw (ne_eqb n 0 h)

@@ -3,23 +3,23 @@
 use Rattle.std.specs.Prelude.{ℕ, ◌+◌, ◌*◌, ◌%◌, ◌<◌, ◌≤◌, Bool, true, false, not, ◌&&◌, ◌||◌, List, [], ◌∷◌, ◌≡◌, eqb, leb, ltb, length}
 use Rattle.common.specs.Tests.{Row, row}
 use Rattle.device.specs.declared.Settings.{Settings}
-use Rattle.device.specs.Sections.{sectionOf, somewhere, mayStore}
+use Rattle.device.specs.Sections.{section_of, somewhere, may_store}
 use Rattle.device.specs.SetUp.{accepted, total}
 use Rattle.device.specs.Sound.{sound}
 use Rattle.device.specs.World.{Hub, slot_at}
-use Rattle.words.specs.Layout.{hubWords, fits, hubOf, Known}
+use Rattle.words.specs.Layout.{hub_words, fits, hub_of, Known}
 use Rattle.gate.specs.RingOutcome.{Usable}
 use Rattle.hub.specs.declared.Lending.{Lending}
 
 -- what is lent, as the code passes it: whether the region is, and its length; whether a delivery table is, and its records
-abbrev pub nothingLent : Lending
-nothingLent = record { regional = false; region = 0; tabled = false; records = 0 }
+abbrev pub nothing_lent : Lending
+nothing_lent = record { regional = false; region = 0; tabled = false; records = 0 }
 
-abbrev pub regionLent : ℕ → Lending
-regionLent region = record { regional = true; region = region; tabled = false; records = 0 }
+abbrev pub region_lent : ℕ → Lending
+region_lent region = record { regional = true; region = region; tabled = false; records = 0 }
 
-abbrev pub bothLent : ℕ → ℕ → Lending
-bothLent region records = record { regional = true; region = region; tabled = true; records = records }
+abbrev pub both_lent : ℕ → ℕ → Lending
+both_lent region records = record { regional = true; region = region; tabled = true; records = records }
 
 abbrev pub admission : Hub → Lending → ℕ → List Row
 admission hub lent who =
@@ -31,35 +31,35 @@ admission hub lent who =
     ∷ []
 
 -- connect: 5 in the place of 4
-abbrev pub joiningRows : Hub → ℕ → List Row
-joiningRows hub who =
+abbrev pub joining_rows : Hub → ℕ → List Row
+joining_rows hub who =
     row 10 (not (sound hub))
     ∷ row 3 (leb hub.settings.peers who)
     ∷ row 5 (eqb (slot_at hub who).peer.connected 1)
     ∷ []
 
 -- an access to a space of `size` bytes, of a width that is allowed there or not
-abbrev pub spaceRows : ℕ → Bool → ℕ → ℕ → List Row
-spaceRows size allowed offset width =
+abbrev pub space_rows : ℕ → Bool → ℕ → ℕ → List Row
+space_rows size allowed offset width =
     row 6 (not allowed) ∷ row 7 (not (eqb (offset % width) 0)) ∷ row 8 (ltb size (offset + width)) ∷ []
 
 abbrev pub any_width : ℕ → Bool
 any_width width = eqb width 1 || eqb width 2 || eqb width 4
 
 -- a range of the shared region
-abbrev pub rangeRows : Settings → ℕ → ℕ → List Row
-rangeRows s offset size = row 6 (eqb size 0) ∷ row 8 (not (somewhere (sectionOf s offset size))) ∷ []
+abbrev pub range_rows : Settings → ℕ → ℕ → List Row
+range_rows s offset size = row 6 (eqb size 0) ∷ row 8 (not (somewhere (section_of s offset size))) ∷ []
 
 -- a range that is to be stored to
-abbrev pub storeRows : Settings → ℕ → ℕ → ℕ → List Row
-storeRows s who offset size = row 9 (not (mayStore who (sectionOf s offset size))) ∷ []
+abbrev pub store_rows : Settings → ℕ → ℕ → ℕ → List Row
+store_rows s who offset size = row 9 (not (may_store who (section_of s offset size))) ∷ []
 
 -- what is known of a caller that these checks let pass, and of its access to a space
 pub record Admitted (ws : List ℕ) (lent : Lending) (id : ℕ) : Type 0 where
   pub room : fits ws ≡ true
-  pub numbers : accepted (hubOf ws).settings ≡ true
+  pub numbers : accepted (hub_of ws).settings ≡ true
   pub known : Known ws id
-  pub region : lent.regional ≡ true → lent.region ≡ total (hubOf ws).settings
+  pub region : lent.regional ≡ true → lent.region ≡ total (hub_of ws).settings
 
 pub record Inside (size : ℕ) (allowed : Bool) (at w : ℕ) : Type 0 where
   pub width : allowed ≡ true
@@ -73,7 +73,7 @@ pub record InSection (s : Settings) (offset size : ℕ) : Type 0 where
 -- what is known of a set-up that is accepted
 pub record SetUpFacts (words : ℕ) (s : Settings) : Type 0 where
   pub numbers : accepted s ≡ true
-  pub room : words ≡ hubWords s.peers s.vectors
+  pub room : words ≡ hub_words s.peers s.vectors
 
 -- a hub and a region on which a peer's call can be carried out
 pub record Ready (ws region : List ℕ) (id : ℕ) : Type 0 where

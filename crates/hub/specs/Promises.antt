@@ -6,39 +6,39 @@ use Rattle.device.specs.declared.SectionReply.{SectionReply}
 use Rattle.device.specs.declared.Settings.{Settings}
 use Rattle.device.specs.Call.{Act, Call, call}
 use Rattle.device.specs.Effect.{Operation, changes, entered}
-use Rattle.device.specs.SetUp.{setUpRefusal, hubAfterSetUp, regionAfterSetUp}
-use Rattle.device.specs.Step.{runAll, step, replyOf, sectionReplyOf}
-use Rattle.device.specs.World.{resetSlot, slot_at, withSlot, world}
+use Rattle.device.specs.SetUp.{set_up_refusal, hub_after_set_up, region_after_set_up}
+use Rattle.device.specs.Step.{run_all, step, reply_of, section_reply_of}
+use Rattle.device.specs.World.{reset_slot, slot_at, with_slot, world}
 use Rattle.deliveries.specs.declared.Deliveries.{Deliveries}
 use Rattle.deliveries.specs.Listed.{Lists}
 use Rattle.hub.specs.declared.Restarted.{Restarted}
 use Rattle.hub.specs.declared.Served.{Served}
-use Rattle.hub.specs.Admission.{admission, bothLent, Admitted}
-use Rattle.words.specs.Layout.{hubWords, hubOf}
+use Rattle.hub.specs.Admission.{admission, both_lent, Admitted}
+use Rattle.words.specs.Layout.{hub_words, hub_of}
 
 -- A read: the region is not lent, and the answer is the same whatever it holds.
 abbrev pub Answers : List ℕ → Call → Reply → Type 0
-Answers hub c r = (region : List ℕ) → r ≡ replyOf (step (world (hubOf hub) region) c)
+Answers hub c r = (region : List ℕ) → r ≡ reply_of (step (world (hub_of hub) region) c)
 
 abbrev pub AnswersQuestion : List ℕ → Call → SectionReply → Type 0
-AnswersQuestion hub c r = (region : List ℕ) → r ≡ sectionReplyOf (step (world (hubOf hub) region) c)
+AnswersQuestion hub c r = (region : List ℕ) → r ≡ section_reply_of (step (world (hub_of hub) region) c)
 
 -- A call that changes the hub and is not lent the region. A refusal leaves each word as it was.
 pub record Changes (before after : List ℕ) (c : Call) (r : Reply) : Type 0 where
-  pub reply : (region : List ℕ) → r ≡ replyOf (step (world (hubOf before) region) c)
-  pub hub : (region : List ℕ) → hubOf after ≡ (step (world (hubOf before) region) c).world.hub
+  pub reply : (region : List ℕ) → r ≡ reply_of (step (world (hub_of before) region) c)
+  pub hub : (region : List ℕ) → hub_of after ≡ (step (world (hub_of before) region) c).world.hub
   pub kept : (r.number ≡ 0 → ⊥) → after ≡ before
 
 -- A load: an accepted one fills the whole buffer, a refused one leaves it.
 pub record Loads (hub region before after : List ℕ) (c : Call) (r : Reply) : Type 0 where
-  pub reply : r ≡ replyOf (step (world (hubOf hub) region) c)
-  pub filled : r.number ≡ 0 → after ≡ (step (world (hubOf hub) region) c).loaded
+  pub reply : r ≡ reply_of (step (world (hub_of hub) region) c)
+  pub filled : r.number ≡ 0 → after ≡ (step (world (hub_of hub) region) c).loaded
   pub kept : (r.number ≡ 0 → ⊥) → after ≡ before
 
 -- A store: the region is the step's, and the hub, which is not lent to be changed, is the step's too.
 pub record Stores (hub before after : List ℕ) (c : Call) (r : Reply) : Type 0 where
-  pub reply : r ≡ replyOf (step (world (hubOf hub) before) c)
-  pub region : world (hubOf hub) after ≡ (step (world (hubOf hub) before) c).world
+  pub reply : r ≡ reply_of (step (world (hub_of hub) before) c)
+  pub region : world (hub_of hub) after ≡ (step (world (hub_of hub) before) c).world
 
 -- the set-up numbers in the order of the rules: N, V, S, R, O, base, protocol type, subsystem vendor, subsystem id
 abbrev pub numbers : ℕ → ℕ → ℕ → ℕ → ℕ → ℕ → ℕ → ℕ → ℕ → Settings
@@ -58,33 +58,33 @@ numbers n v s r o base protocol vendor subsystem =
 -- Set-up, in words as many as its numbers ask for. Every refusal leaves all words zero: words of another length could hold a sound
 -- hub of another size.
 pub record SetsUp (before after regionBefore regionAfter : List ℕ) (s : Settings) (r : Reply) : Type 0 where
-  pub reply : r ≡ record { number = setUpRefusal (eqb (length before) (hubWords s.peers s.vectors)) s regionBefore; value = 0 }
-  pub hub : hubOf after ≡ hubAfterSetUp r.number s
-  pub region : regionAfter ≡ regionAfterSetUp r.number regionBefore
+  pub reply : r ≡ record { number = set_up_refusal (eqb (length before) (hub_words s.peers s.vectors)) s regionBefore; value = 0 }
+  pub hub : hub_of after ≡ hub_after_set_up r.number s
+  pub region : regionAfter ≡ region_after_set_up r.number regionBefore
   pub zero : (r.number ≡ 0 → ⊥) → after ≡ replicate (length before) 0
 
 -- Operations run on the hub and the region: what they leave, and their deliveries in order.
 pub record Runs (hub after region regionAfter : List ℕ) (id : ℕ) (operations : List Operation) (d : Deliveries) : Type 0 where
-  pub left : world (hubOf after) regionAfter ≡ (runAll id (world (hubOf hub) region) operations).world
-  pub list : Lists (hubOf after) d (runAll id (world (hubOf hub) region) operations).deliveries
+  pub left : world (hub_of after) regionAfter ≡ (run_all id (world (hub_of hub) region) operations).world
+  pub list : Lists (hub_of after) d (run_all id (world (hub_of hub) region) operations).deliveries
 
 -- A call that is lent the region and a delivery table, whose length is among the call's arguments: hub and region afterwards are
 -- the step's, the list is the step's deliveries in order, its records made from the hub afterwards, and a refusal leaves each word
 -- as it was.
 pub record Serves (hub after region regionAfter : List ℕ) (c : Call) (r : Served) : Type 0 where
-  pub reply : r.reply ≡ replyOf (step (world (hubOf hub) region) c)
-  pub left : world (hubOf after) regionAfter ≡ (step (world (hubOf hub) region) c).world
-  pub list : Lists (hubOf after) r.list (step (world (hubOf hub) region) c).deliveries
+  pub reply : r.reply ≡ reply_of (step (world (hub_of hub) region) c)
+  pub left : world (hub_of after) regionAfter ≡ (step (world (hub_of hub) region) c).world
+  pub list : Lists (hub_of after) r.list (step (world (hub_of hub) region) c).deliveries
   pub kept : (r.reply.number ≡ 0 → ⊥) → after ≡ hub
 
 -- Reset and disconnect, which differ in whether the peer stays, up to the State Table entry: a refusal changes nothing, else the
 -- peer's slot is at its reset values, and State changes where it was not 0.
 pub record Restarts (hub after : List ℕ) (room records id connected : ℕ) (r : Restarted) : Type 0 where
-  pub number : r.number ≡ first (admission (hubOf hub) (bothLent room records) id)
+  pub number : r.number ≡ first (admission (hub_of hub) (both_lent room records) id)
   pub refused : (r.number ≡ 0 → ⊥) → after ≡ hub
-  pub admitted : r.number ≡ 0 → Admitted hub (bothLent room records) id
-  pub slot : r.number ≡ 0 → hubOf after ≡ withSlot (hubOf hub) id (resetSlot (hubOf hub).settings.vectors connected)
-  pub changed : r.number ≡ 0 → r.changed ≡ changes (slot_at (hubOf hub) id).peer.state 0
+  pub admitted : r.number ≡ 0 → Admitted hub (both_lent room records) id
+  pub slot : r.number ≡ 0 → hub_of after ≡ with_slot (hub_of hub) id (reset_slot (hub_of hub).settings.vectors connected)
+  pub changed : r.number ≡ 0 → r.changed ≡ changes (slot_at (hub_of hub) id).peer.state 0
 
 -- The rest of such a call: nothing where its number is a refusal's, else the entry and the rings.
 pub record Told (hub after region regionAfter : List ℕ) (id : ℕ) (own : Restarted) (r : Served) : Type 0 where

@@ -3,5 +3,5 @@ use Rattle.std.specs.Prelude.{ℕ, Bool, cond}
 use Rattle.device.specs.Call.{Act}
 
 -- a read of the MSI-X region, or else of the register region
-abbrev pub regionRead : (table : Bool) → ℕ → ℕ → Act
-regionRead table at width = cond table (Act.msixRead at width) (Act.registerRead at width)
+abbrev pub region_read : (table : Bool) → ℕ → ℕ → Act
+region_read table at width = cond table (Act.msix_read at width) (Act.register_read at width)

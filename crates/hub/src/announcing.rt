@@ -2,10 +2,10 @@
 ghost use Rattle.std.specs.Prelude.{◌≡◌};
 ghost use Rattle.device.specs.Call.{call};
 ghost use Rattle.device.specs.Call;
-ghost use Rattle.device.specs.Effect.{entered, registerStored};
-ghost use Rattle.device.specs.Registers.{registerAt};
+ghost use Rattle.device.specs.Effect.{entered, register_stored};
+ghost use Rattle.device.specs.Registers.{register_at};
 ghost use Rattle.device.specs.World.{slot_at};
-ghost use Rattle.words.specs.Layout.{hubOf};
+ghost use Rattle.words.specs.Layout.{hub_of};
 ghost use Rattle.hub.specs.Admission.{Ready};
 ghost use Rattle.hub.specs.Promises.{Restarts, Runs, Serves, Told};
 
@@ -51,7 +51,7 @@ fn store_register(
 ) -> Deliveries
     requires { Ready hub.old region.old id }
     ensures { Runs hub.old hub.new region.old region.new id
-        (registerStored id (slot_at (hubOf hub.old) id) (registerAt offset) value) result }
+        (register_stored id (slot_at (hub_of hub.old) id) (register_at offset) value) result }
 {
     let p = words::peer(hub, id as usize);
     match offset {
@@ -84,7 +84,7 @@ pub fn register_write(
     value: u32,
 ) -> Served
     ensures { Serves hub.old hub.new region.old region.new
-        (call id (Call.Act.registerWrite records offset width value)) result }
+        (call id (Call.Act.register_write records offset width value)) result }
 {
     let lent = refusals::both_lent(region.len() as u64, records);
     let number = refusals::space_refusal(hub, lent, id, 4096, width == 4, offset, width);

@@ -3,9 +3,9 @@ ghost use Rattle.std.specs.Prelude.{◌≡◌, eqb, length};
 ghost use Rattle.common.specs.Tests.{first};
 ghost use Rattle.device.specs.Call.{call};
 ghost use Rattle.device.specs.Call;
-ghost use Rattle.device.specs.SetUp.{setUpRefusal};
-ghost use Rattle.words.specs.Layout.{hubWords, hubOf};
-ghost use Rattle.hub.specs.Admission.{nothingLent, joiningRows, Admitted, SetUpFacts};
+ghost use Rattle.device.specs.SetUp.{set_up_refusal};
+ghost use Rattle.words.specs.Layout.{hub_words, hub_of};
+ghost use Rattle.hub.specs.Admission.{nothing_lent, joining_rows, Admitted, SetUpFacts};
 ghost use Rattle.hub.specs.Promises.{Changes, numbers, SetsUp};
 
 use super::refusals;
@@ -13,7 +13,7 @@ use device::{Peer, Reply, Settings};
 
 // 1, 10 and 2 for a set-up: the numbers, the words' length that they ask for, the region's length.
 fn set_up_refusal(words: usize, s: Settings, region: &[u8]) -> u32
-    ensures is { result ≡ setUpRefusal (eqb words (hubWords s.peers s.vectors)) s region.now }
+    ensures is { result ≡ set_up_refusal (eqb words (hub_words s.peers s.vectors)) s region.now }
     ensures facts { result ≡ 0 → SetUpFacts words s }
 {
     let numbers = soundness::accepted(s);
@@ -77,8 +77,8 @@ pub fn set_up(
 
 // 10, 3 and 5.
 pub fn joining_refusal(hub: &[u32], id: u64) -> u32
-    ensures is { result ≡ first (joiningRows (hubOf hub.now) id) }
-    ensures facts { result ≡ 0 → Admitted hub.now nothingLent id }
+    ensures is { result ≡ first (joining_rows (hub_of hub.now) id) }
+    ensures facts { result ≡ 0 → Admitted hub.now nothing_lent id }
 {
     let ok = soundness::sound(hub);
     if !ok {

@@ -2,15 +2,15 @@
 ghost use Rattle.std.specs.Prelude.{◌≡◌};
 ghost use Rattle.device.specs.Call.{call};
 ghost use Rattle.device.specs.Call;
-ghost use Rattle.device.specs.Sections.{noSection};
+ghost use Rattle.device.specs.Sections.{no_section};
 ghost use Rattle.hub.specs.Promises.{Answers, AnswersQuestion};
-ghost use Rattle.hub.specs.Reads.{regionRead};
+ghost use Rattle.hub.specs.Reads.{region_read};
 
 use super::refusals;
 use device::{Reply, SectionAnswer, SectionKind, SectionReply};
 
 pub fn configuration_read(hub: &[u32], id: u64, offset: u64, width: u64) -> Reply
-    ensures { Answers hub.now (call id (Call.Act.configurationRead offset width)) result }
+    ensures { Answers hub.now (call id (Call.Act.configuration_read offset width)) result }
 {
     let allowed = (width == 1) | (width == 2) | (width == 4);
     let lent = refusals::nothing_lent();
@@ -29,7 +29,7 @@ pub fn configuration_read(hub: &[u32], id: u64, offset: u64, width: u64) -> Repl
 
 // A read of the register region or, where `table` holds, of the MSI-X region. With Command bit 1 off it is all ones.
 fn region_read(hub: &[u32], id: u64, table: bool, offset: u64, width: u64) -> Reply
-    ensures { Answers hub.now (call id (regionRead table offset width)) result }
+    ensures { Answers hub.now (call id (region_read table offset width)) result }
 {
     let lent = refusals::nothing_lent();
     let number = refusals::space_refusal(hub, lent, id, 4096, width == 4, offset, width);
@@ -67,20 +67,20 @@ fn region_read(hub: &[u32], id: u64, table: bool, offset: u64, width: u64) -> Re
 }
 
 pub fn register_read(hub: &[u32], id: u64, offset: u64, width: u64) -> Reply
-    ensures { Answers hub.now (call id (Call.Act.registerRead offset width)) result }
+    ensures { Answers hub.now (call id (Call.Act.register_read offset width)) result }
 {
     region_read(hub, id, false, offset, width)
 }
 
 pub fn msix_read(hub: &[u32], id: u64, offset: u64, width: u64) -> Reply
-    ensures { Answers hub.now (call id (Call.Act.msixRead offset width)) result }
+    ensures { Answers hub.now (call id (Call.Act.msix_read offset width)) result }
 {
     region_read(hub, id, true, offset, width)
 }
 
 // A refused question names no section and says no.
 fn unanswered(number: u32) -> SectionReply
-    ensures { result ≡ record { reply = record { number = number; value = 0 }; section = noSection } }
+    ensures { result ≡ record { reply = record { number = number; value = 0 }; section = no_section } }
 {
     let reply = refusals::answered(number);
     let section = SectionAnswer {

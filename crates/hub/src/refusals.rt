@@ -2,8 +2,8 @@
 ghost use Rattle.std.specs.Prelude.{◌≡◌, true, false, ◌++◌, ◌≤◌, ◌<◌};
 ghost use Rattle.common.specs.Tests.{first};
 ghost use Rattle.device.specs.SetUp.{accepted};
-ghost use Rattle.words.specs.Layout.{hubOf};
-ghost use Rattle.hub.specs.Admission.{nothingLent, regionLent, bothLent, admission, spaceRows, rangeRows, storeRows, Admitted, Inside, InSection};
+ghost use Rattle.words.specs.Layout.{hub_of};
+ghost use Rattle.hub.specs.Admission.{nothing_lent, region_lent, both_lent, admission, space_rows, range_rows, store_rows, Admitted, Inside, InSection};
 
 use super::Lending;
 use device::{Reply, Settings};
@@ -16,7 +16,7 @@ pub fn answered(number: u32) -> Reply
 }
 
 pub fn nothing_lent() -> Lending
-    ensures { result ≡ nothingLent }
+    ensures { result ≡ nothing_lent }
 {
     Lending {
         regional: false,
@@ -27,7 +27,7 @@ pub fn nothing_lent() -> Lending
 }
 
 pub fn region_lent(region: u64) -> Lending
-    ensures { result ≡ regionLent region }
+    ensures { result ≡ region_lent region }
 {
     Lending {
         regional: true,
@@ -38,7 +38,7 @@ pub fn region_lent(region: u64) -> Lending
 }
 
 pub fn both_lent(region: u64, records: u64) -> Lending
-    ensures { result ≡ bothLent region records }
+    ensures { result ≡ both_lent region records }
 {
     Lending {
         regional: true,
@@ -50,7 +50,7 @@ pub fn both_lent(region: u64, records: u64) -> Lending
 
 // 10, 2, 11, 3 and 4: the hub, what is lent, and the id.
 pub fn admitted(hub: &[u32], lent: Lending, id: u64) -> u32
-    ensures is { result ≡ first (admission (hubOf hub.now) lent id) }
+    ensures is { result ≡ first (admission (hub_of hub.now) lent id) }
     ensures facts { result ≡ 0 → Admitted hub.now lent id }
 {
     let ok = soundness::sound(hub);
@@ -80,7 +80,7 @@ pub fn admitted(hub: &[u32], lent: Lending, id: u64) -> u32
 // 6, 7 and 8 for an access to a space of `size` bytes.
 fn space(size: u64, allowed: bool, offset: u64, width: u64) -> u32
     requires { (4 ≤ size) × (allowed ≡ true → (0 < width) × (width ≤ 4)) }
-    ensures { result ≡ first (spaceRows size allowed offset width) }
+    ensures { result ≡ first (space_rows size allowed offset width) }
 {
     if !allowed {
         return 6;
@@ -105,7 +105,7 @@ pub fn space_refusal(
     width: u64,
 ) -> u32
     requires { (4 ≤ size) × (allowed ≡ true → (0 < width) × (width ≤ 4)) }
-    ensures is { result ≡ first (admission (hubOf hub.now) lent id ++ spaceRows size allowed offset width) }
+    ensures is { result ≡ first (admission (hub_of hub.now) lent id ++ space_rows size allowed offset width) }
     ensures caller { result ≡ 0 → Admitted hub.now lent id }
     ensures access { result ≡ 0 → Inside size allowed offset width }
 {
@@ -119,7 +119,7 @@ pub fn space_refusal(
 // 6 and 8 for a range of the shared region.
 pub fn range(s: Settings, offset: u64, length: u64) -> u32
     requires { accepted s ≡ true }
-    ensures { result ≡ first (rangeRows s offset length) }
+    ensures { result ≡ first (range_rows s offset length) }
 {
     if length == 0 {
         return 6;
@@ -133,9 +133,9 @@ pub fn range(s: Settings, offset: u64, length: u64) -> u32
 
 // A call with a range of the shared region.
 pub fn range_refusal(hub: &[u32], lent: Lending, id: u64, offset: u64, length: u64) -> u32
-    ensures is { result ≡ first (admission (hubOf hub.now) lent id ++ rangeRows (hubOf hub.now).settings offset length) }
+    ensures is { result ≡ first (admission (hub_of hub.now) lent id ++ range_rows (hub_of hub.now).settings offset length) }
     ensures caller { result ≡ 0 → Admitted hub.now lent id }
-    ensures access { result ≡ 0 → InSection (hubOf hub.now).settings offset length }
+    ensures access { result ≡ 0 → InSection (hub_of hub.now).settings offset length }
 {
     let number = admitted(hub, lent, id);
     if number != 0 {
@@ -146,10 +146,10 @@ pub fn range_refusal(hub: &[u32], lent: Lending, id: u64, offset: u64, length: u
 
 // The same with 9, for a range that is to be stored to.
 pub fn store_refusal(hub: &[u32], lent: Lending, id: u64, offset: u64, length: u64) -> u32
-    ensures is { result ≡ first ((admission (hubOf hub.now) lent id ++ rangeRows
-        (hubOf hub.now).settings offset length) ++ storeRows (hubOf hub.now).settings id offset length) }
+    ensures is { result ≡ first ((admission (hub_of hub.now) lent id ++ range_rows
+        (hub_of hub.now).settings offset length) ++ store_rows (hub_of hub.now).settings id offset length) }
     ensures caller { result ≡ 0 → Admitted hub.now lent id }
-    ensures access { result ≡ 0 → InSection (hubOf hub.now).settings offset length }
+    ensures access { result ≡ 0 → InSection (hub_of hub.now).settings offset length }
 {
     let number = range_refusal(hub, lent, id, offset, length);
     if number != 0 {

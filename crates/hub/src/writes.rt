@@ -8,7 +8,7 @@ use super::refusals;
 use device::Reply;
 
 pub fn configuration_write(hub: &mut [u32], id: u64, offset: u64, width: u64, value: u32) -> Reply
-    ensures { Changes hub.old hub.new (call id (Call.Act.configurationWrite offset width value)) result }
+    ensures { Changes hub.old hub.new (call id (Call.Act.configuration_write offset width value)) result }
 {
     let allowed = (width == 1) | (width == 2) | (width == 4);
     let lent = refusals::nothing_lent();
@@ -28,7 +28,7 @@ pub fn configuration_write(hub: &mut [u32], id: u64, offset: u64, width: u64, va
 
 // A store while Command bit 1 is off, or outside the entries, is accepted and does nothing.
 pub fn msix_write(hub: &mut [u32], id: u64, offset: u64, width: u64, value: u32) -> Reply
-    ensures { Changes hub.old hub.new (call id (Call.Act.msixWrite offset width value)) result }
+    ensures { Changes hub.old hub.new (call id (Call.Act.msix_write offset width value)) result }
 {
     let lent = refusals::nothing_lent();
     let number = refusals::space_refusal(hub, lent, id, 4096, width == 4, offset, width);

@@ -4,7 +4,7 @@ use mathlib.Core.Path.{◌≡◌, refl}
 use Rattle.device.specs.declared.Settings.{Settings}
 use Rattle.ivshmem.specs.Promises.{given}
 
-pub each-in-its-place :
+pub each_in_its_place :
     given
     (record {
       peers = 2;
@@ -28,4 +28,4 @@ pub each-in-its-place :
       vendor = 9;
       subsystem = 10;
     }
-each-in-its-place = refl
+each_in_its_place = refl

@@ -51,8 +51,8 @@ use Rattle.hub.proofs.Served.TheLaws as S'
 use Rattle.hub.specs.declared.Served.{Served}
 use Rattle.hub.specs.Promises.{Serves}
 use Rattle.ivshmem.specs.Promises.{HandsOut}
-use Rattle.ivshmem.proofs.TableLaws.{Roomy, can-hand-out, hands_out}
-use Rattle.ivshmem.proofs.LentTable.{lentOn, lentAgain, lends-on, reads-again, counted, Said, is-counted, HandOut, hands, goes-core, Had, ends}
+use Rattle.ivshmem.proofs.TableLaws.{Roomy, can_hand_out, hands_out}
+use Rattle.ivshmem.proofs.LentTable.{lent_on, lent_again, lends_on, reads_again, counted, Said, is_counted, HandOut, hands, goes_core, Had, ends}
 use Rattle.ivshmem.specs.contracts.Counted as R
 use Rattle.ivshmem.proofs.Counted.TheLaws as R'
 use Rattle.ivshmem.specs.contracts.ivshmem_reset as reset
@@ -61,8 +61,8 @@ use Rattle.ivshmem.specs.contracts.ivshmem_reset as reset
 abbrev word : Ty
 word = ty_int w64
 
-abbrev record-named : Ty
-record-named = pointee (D.the_row).written
+abbrev record_named : Ty
+record_named = pointee (D.the_row).written
 
 abbrev pub function : Name → Fn
 function core = record {
@@ -73,7 +73,7 @@ function core = record {
       local R'.mir value_local
       ∷ local (slice_ty (ty_ref (named 0) mut (ty_int w32))) value_local
       ∷ local (slice_ty (ty_ref (named 1) mut (ty_int w8))) value_local
-      ∷ local (slice_ty (ty_ref (named 2) mut record-named)) value_local
+      ∷ local (slice_ty (ty_ref (named 2) mut record_named)) value_local
       ∷ local word value_local
       ∷ local S'.mir value_local
       ∷ local word value_local
@@ -85,8 +85,8 @@ function core = record {
       ∷ local word value_local
       ∷ local (ty_ref erased imm (ty_int w32)) value_local
       ∷ local (slice_ty (ty_ref erased imm (ty_int w32))) value_local
-      ∷ local (ty_ref erased mut record-named) value_local
-      ∷ local (slice_ty (ty_ref erased mut record-named)) value_local
+      ∷ local (ty_ref erased mut record_named) value_local
+      ∷ local (slice_ty (ty_ref erased mut record_named)) value_local
       ∷ [];
   body =
       seq (assign (place 7 []) (addr_of (place 1 (field 0 ∷ deref (ty_int w32) ∷ []))))
@@ -113,8 +113,8 @@ stayed = (
 
 -- the contracts: of the call by value, of `hand_out` and of the whole
 module _ {M : Type 1} (𝓤 : Ura M) (act : ℕ → Act) where
-  abbrev pub core-clauses : Clauses 𝓤 core.ended
-  core-clauses κs a = record {
+  abbrev pub core_clauses : Clauses 𝓤 core.ended
+  core_clauses κs a = record {
     ghost = Unit {0};
     requires = λ _. emp 𝓤;
     ensures = λ _ r e. fact 𝓤 (Serves a.0.now e.0.now a.1.0.now e.1.0.now (Call.call a.1.1.1.0 (act a.1.1.0)) r);
@@ -130,10 +130,10 @@ module _ {M : Type 1} (𝓤 : Ura M) (act : ℕ → Act) where
 
 module _ {M : Type 1} {𝓤 : Ura M} (𝓛 : Logic 𝓤) (act : ℕ → Act) where
   abbrev pub Core : Contract 𝓤
-  Core = triple_of 𝓛 core.signature (closing 𝓛 core.ended (core-clauses 𝓤 act))
+  Core = triple_of 𝓛 core.signature (closing 𝓛 core.ended (core_clauses 𝓤 act))
 
 module _ {M : Type 1} {𝓤 : Ura M} (𝓛 : Logic 𝓤) (mem : Memory → SProp 𝓤) (run : Routine → Fun 𝓤)
-    (act : ℕ → Act) (hub : Lent u32) (region : Lent u8) (table : Lent D.the_row) (id : ℕ) (id-fits : id < 2 ^ 64) where
+    (act : ℕ → Act) (hub : Lent u32) (region : Lent u8) (table : Lent D.the_row) (id : ℕ) (id_fits : id < 2 ^ 64) where
   open 𝓛 use {H}
 
   abbrev κs : Lfts 3
@@ -157,10 +157,10 @@ module _ {M : Type 1} {𝓤 : Ura M} (𝓛 : Logic 𝓤) (mem : Memory → SProp
   -- what the triple of the call by value binds outside: the hub is lent on for the lifetime α under the name δ
   module _ (α : ℕ) (δ : GName) where
     abbrev passed : Args core.signature (α ∷ [], (region.lifetime, tt))
-    passed = (reference (lentOn hub α δ), (reference region, (length table.now, (id, tt))))
+    passed = (reference (lent_on hub α δ), (reference region, (length table.now, (id, tt))))
 
-    abbrev to-core : (Core 𝓛 act).Ghost
-    to-core = (
+    abbrev to_core : (Core 𝓛 act).Ghost
+    to_core = (
       (
         (α ∷ [], (region.lifetime, tt)),
         (full_share, (region.share, tt)),
@@ -178,11 +178,11 @@ module _ {M : Type 1} {𝓤 : Ura M} (𝓛 : Logic 𝓤) (mem : Memory → SProp
   abbrev numbers : Fml
   numbers = fsep (u64.own_val (length table.now) (vint w64 (length table.now) ∷ [])) ids
 
-  made-ids : ent 𝓤 (emp 𝓤) (sem 𝓛 ids)
-  made-ids = qed 𝓛 [] ∵ nothing ! $ owned ! u64 (Is u64) (uint_Makes 𝓛 w64) id _ (refl, id-fits) $ fjoin ! $ done !
+  made_ids : ent 𝓤 (emp 𝓤) (sem 𝓛 ids)
+  made_ids = qed 𝓛 [] ∵ nothing ! $ owned ! u64 (Is u64) (uint_Makes 𝓛 w64) id _ (refl, id_fits) $ fjoin ! $ done !
 
   made : ent 𝓤 (emp 𝓤) (sem 𝓛 numbers)
-  made = qed 𝓛 [] ∵ use0 𝓛 (‵ ids) made-ids $ owned ! u64 (Is u64) (uint_Makes 𝓛 w64) (length table.now) _ (refl, table.room.0) $ fjoin ! $ done !
+  made = qed 𝓛 [] ∵ use0 𝓛 (‵ ids) made_ids $ owned ! u64 (Is u64) (uint_Makes 𝓛 w64) (length table.now) _ (refl, table.room.0) $ fjoin ! $ done !
 
   exits : (r : Served) (n : ℕ) (hub' region' : List ℕ) (table' : List Delivery) → Is R.the_row (counted r n)
       (LL.vals R.the_type R'.the_laws (counted r n)) → HandsOut hub.now hub' region.now region' table.now table' id act
@@ -193,7 +193,7 @@ module _ {M : Type 1} {𝓤 : Ura M} (𝓛 : Logic 𝓤) (mem : Memory → SProp
       qed 𝓛 (Had 𝓛 hub region table hub' region' table') ∵
       suffices ! _ (ends_at 𝓛 reset.ended stayed (clauses 𝓤 act) bound (LL.val R.the_type R'.the_laws (counted r n))
       (counted r n) (hub', (region', (table', (tt, tt)))) (e₀, (e₁, (e₂, (tt, tt))))) $ says ! promised $
-      by ! (ends 𝓛 hub region table hub' region' table' ids made-ids (counted r n) is)
+      by ! (ends 𝓛 hub region table hub' region' table' ids made_ids (counted r n) is)
 
   module _ (name : Name) (roomy : Roomy act) (C : Calls 𝓤 H) (Λ : Loops 𝓤 H) (fm : FmC 𝓤 H 𝓛.laws C)
       (known : Triple 𝓤 (C name) (Core 𝓛 act)) (known-hand : Triple 𝓤 (C #deliveries·hand-out) (HandOut 𝓛 mem run)) where
@@ -213,7 +213,7 @@ module _ {M : Type 1} {𝓤 : Ura M} (𝓛 : Logic 𝓤) (mem : Memory → SProp
         pass1 ! (init ! 30 refl (tt, (tt, (record { fits = hub.room.0 }, tt)))) $
         pass1 ! (init ! 28 refl (tt, (tt, (record { fits = region.room.0 }, tt)))) $
         pass1 ! (init ! 26 refl (tt, (tt, (record { fits = table.room.0 }, tt)))) $
-        pass1 ! (init ! 24 refl (tt, record { fits = id-fits })) $ pass0 ! $
+        pass1 ! (init ! 24 refl (tt, record { fits = id_fits })) $ pass0 ! $
         -- [_16; …; _15; …; down to _1; …; room for _0; …; the tokens; what the parameters own]
         assigns ! (addr ! (from ! (fld ! refl (hop ! (look_in ! 30 (sub ! 0 refl (whole !))) (stop !))))) (from ! (stop !)) (init ! 18 refl (tt, tt)) $
         assigns ! (agg ! (and_then ! (load ! (from ! (stop !)) (look ! 18 refl))
@@ -229,20 +229,20 @@ module _ {M : Type 1} {𝓤 : Ura M} (𝓛 : Logic 𝓤) (mem : Memory → SProp
         move ! (35 ∷ []) $ fsplit ! $ move ! (1 ∷ []) $ fsplit ! $ move ! (1 ∷ []) $ fsplit ! $ move ! (38 ∷ []) $ split ! $
         move ! (1 ∷ []) $ split ! $ move ! (1 ∷ []) $ split ! $
         -- [the table's token; true; the region's; the hub's; table; the numbers; region; hub; _16; …]
-        move ! (3 ∷ 7 ∷ []) $ lends-on ! tt hub (λ α δ. move ! (0 ∷ 5 ∷ 1 ∷ 8 ∷ []) $ join ! $
-        use3 𝓛 (raw ((Core 𝓛 act).pre (to-core α δ))) (goes-core 𝓛 (lentOn hub α δ) region table numbers made) $
+        move ! (3 ∷ 7 ∷ []) $ lends_on ! tt hub (λ α δ. move ! (0 ∷ 5 ∷ 1 ∷ 8 ∷ []) $ join ! $
+        use3 𝓛 (raw ((Core 𝓛 act).pre (to_core α δ))) (goes_core 𝓛 (lent_on hub α δ) region table numbers made) $
         -- [what the call asks; what is kept of the hub; the table's token; true; table; the numbers; _16; …]
-        calls_at ! fm (Core 𝓛 act) known (to-core α δ) (and_then ! (load ! (from ! (stop !)) (look ! 22 refl))
+        calls_at ! fm (Core 𝓛 act) known (to_core α δ) (and_then ! (load ! (from ! (stop !)) (look ! 22 refl))
         (and_then ! (load ! (from ! (stop !)) (look ! 18 refl)) (and_then ! (load ! (from ! (stop !)) (look ! 14 refl))
         (and_then ! (load ! (from ! (stop !)) (look ! 30 refl)) (no_more !))))) (λ w.
         returned ! tt S.the_row w core.ended (α ∷ [], (region.lifetime, tt)) (passed α δ)
-        (‵ (token (lentOn hub α δ)) ⊛ (‵ (token region) ⊛ ‵ ftrue)) (λ r zs. Said hub region table id act zs.0
+        (‵ (token (lent_on hub α δ)) ⊛ (‵ (token region) ⊛ ‵ ftrue)) (λ r zs. Said hub region table id act zs.0
         zs.1.0 r) (id⊢ 𝓤 _) (λ r zs s is.
-        leaves ! (lentOn hub α δ) zs.0 (λ _. leaves ! region zs.1.0 (λ e₁.
+        leaves ! (lent_on hub α δ) zs.0 (λ _. leaves ! region zs.1.0 (λ e₁.
         -- [the numbers' part; the region's last list; the hub's; the tokens; what is kept of the hub; the table's token; true; table; the numbers; _16; …]
         land ! (from ! (stop !)) (init ! 31 refl ((LL.lawful S.the_type S'.the_laws 𝓛).typed r _ is).0) $
         rewrite ! 31 (λ (u : Val). ‵ (fat full_share S'.mir l₅ 0 u)) (ap only (LL.tells S.the_type S'.the_laws r _ is)) refl $
-        move ! (3 ∷ []) $ split ! $ move ! (0 ∷ 4 ∷ 5 ∷ []) $ reads-again ! tt hub α δ zs.0 (λ e₀ δ'.
+        move ! (3 ∷ []) $ split ! $ move ! (0 ∷ 4 ∷ 5 ∷ []) $ reads_again ! tt hub α δ zs.0 (λ e₀ δ'.
         -- [the hub's token; the hub; its last list; the region's token; …; its last list; the table's token; true; table; the numbers; _16; …]
         assigns ! (addr ! (from ! (fld ! refl (hop ! (look_in ! 40 (sub ! 0 refl (whole !))) (stop !))))) (from ! (stop !)) (init ! 16 refl (tt, tt)) $
         assigns ! (agg ! (and_then ! (load ! (from ! (stop !)) (look ! 16 refl))
@@ -253,8 +253,8 @@ module _ {M : Type 1} {𝓤 : Ura M} (𝓛 : Logic 𝓤) (mem : Memory → SProp
         assigns ! (agg ! (and_then ! (load ! (from ! (stop !)) (look ! 12 refl))
         (and_then ! (load ! (from ! (fld ! refl (stop !))) (look_in ! 36 (sub ! 1 refl (whole !)))) (no_more !))))
         (from ! (stop !)) (init ! 10 refl (tt, (tt, (record { fits = table.room.0 }, tt)))) $
-        move ! (0 ∷ 1 ∷ 6 ∷ 8 ∷ []) $ hands ! mem run (lentAgain hub zs.0 e₀ δ') table fm known-hand r w
-        (can-hand-out hub.now zs.0 region.now zs.1.0 id act r (length table.now) roomy s) is
+        move ! (0 ∷ 1 ∷ 6 ∷ 8 ∷ []) $ hands ! mem run (lent_again hub zs.0 e₀ δ') table fm known-hand r w
+        (can_hand_out hub.now zs.0 region.now zs.1.0 id act r (length table.now) roomy s) is
         (and_then ! (load ! (from ! (stop !)) (look ! 11 refl)) (and_then ! (load ! (from ! (stop !)) (look ! 7 refl))
         (and_then ! (load ! (from ! (fld ! refl (stop !))) (look_in ! 29 (sub ! 1 refl (whole !)))) (no_more !))))
         (λ n w' table' h e₂ is'.
@@ -263,7 +263,7 @@ module _ {M : Type 1} {𝓤 : Ura M} (𝓛 : Logic 𝓤) (mem : Memory → SProp
         rewrite ! 28 (λ (u : Val). ‵ (fat full_share word l₆ 0 u)) (ap only is'.0) refl $
         assigns ! (agg ! (and_then ! (load ! (from ! (fld ! refl (stop !))) (look_in ! 30 (sub ! 0 refl (whole !))))
         (and_then ! (load ! (from ! (stop !)) (look ! 28 refl)) (no_more !)))) (from ! (stop !))
-        (init ! 40 refl ((LL.lawful R.the_type R'.the_laws 𝓛).typed (counted r n) _ (is-counted r n w is is'.1)).0) $
+        (init ! 40 refl ((LL.lawful R.the_type R'.the_laws 𝓛).typed (counted r n) _ (is_counted r n w is is'.1)).0) $
         returns ! (look ! 40 refl) $ forget ! 8 refl $ forget ! 10 refl $ forget ! 12 refl $ forget ! 14 refl $
         forget ! 16 refl $ forget ! 18 refl $ forget ! 20 refl $ forget ! 22 refl $ forget ! 24 refl $ forget ! 26 refl $
         forget ! 28 refl $ forget ! 30 refl $ forget ! 32 refl $ forget ! 34 refl $ forget ! 36 refl $ forget ! 38 refl $
@@ -275,7 +275,7 @@ module _ {M : Type 1} {𝓤 : Ura M} (𝓛 : Logic 𝓤) (mem : Memory → SProp
         move ! (16 ∷ 17 ∷ []) $ free1 ! $ move ! (14 ∷ 15 ∷ []) $ free1 ! $ move ! (12 ∷ 13 ∷ []) $ free1 ! $
         move ! (10 ∷ 11 ∷ []) $ free1 ! $ move ! (8 ∷ 9 ∷ []) $ free1 ! $ free0 ! $
         keep ! (0 ∷ 3 ∷ 2 ∷ 5 ∷ 1 ∷ []) $
-        by ! (exits r n zs.0 zs.1.0 table' (is-counted r n w is is'.1) (hands_out hub.now zs.0 region.now
+        by ! (exits r n zs.0 zs.1.0 table' (is_counted r n w is is'.1) (hands_out hub.now zs.0 region.now
         zs.1.0 id act r table.now table' n s h) e₀ e₁ e₂)))))))))))))))))))))))))
 
 module _ {M : Type 1} {𝓤 : Ura M} (𝓛 : Logic 𝓤) (mem : Memory → SProp 𝓤) (run : Routine → Fun 𝓤)

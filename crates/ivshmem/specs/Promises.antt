@@ -4,15 +4,15 @@ use Rattle.device.specs.declared.Delivery.{Delivery}
 use Rattle.device.specs.declared.SectionReply.{SectionReply}
 use Rattle.device.specs.declared.Settings.{Settings}
 use Rattle.device.specs.Call.{Act, Call, call}
-use Rattle.device.specs.Sections.{kindNumber, ownerNumber}
-use Rattle.device.specs.Step.{step, replyOf, sectionReplyOf}
+use Rattle.device.specs.Sections.{kind_number, owner_number}
+use Rattle.device.specs.Step.{step, reply_of, section_reply_of}
 use Rattle.device.specs.World.{world}
-use Rattle.deliveries.specs.Listed.{handedOut}
+use Rattle.deliveries.specs.Listed.{handed_out}
 use Rattle.ivshmem.specs.declared.Counted.{Counted}
 use Rattle.ivshmem.specs.declared.SectionNumbers.{SectionNumbers}
 use Rattle.ivshmem.specs.declared.SetUpNumbers.{SetUpNumbers}
 use Rattle.hub.specs.Promises.{numbers}
-use Rattle.words.specs.Layout.{hubOf}
+use Rattle.words.specs.Layout.{hub_of}
 
 -- the settings that a host's numbers are
 abbrev pub given : SetUpNumbers → Settings
@@ -23,21 +23,21 @@ given s =
 -- their number is returned. A refusal leaves each word and each record as it was.
 pub record HandsOut (hub after region regionAfter : List ℕ) (records recordsAfter : List Delivery) (id : ℕ) (act : ℕ → Act) (r : Counted) :
     Type 0 where
-  pub reply : r.reply ≡ replyOf (step (world (hubOf hub) region) (call id (act (length records))))
-  pub left : world (hubOf after) regionAfter ≡ (step (world (hubOf hub) region) (call id (act (length records)))).world
-  pub table : recordsAfter ≡ handedOut (step (world (hubOf hub) region) (call id (act (length records)))).deliveries records
-  pub count : r.count ≡ length (step (world (hubOf hub) region) (call id (act (length records)))).deliveries
+  pub reply : r.reply ≡ reply_of (step (world (hub_of hub) region) (call id (act (length records))))
+  pub left : world (hub_of after) regionAfter ≡ (step (world (hub_of hub) region) (call id (act (length records)))).world
+  pub table : recordsAfter ≡ handed_out (step (world (hub_of hub) region) (call id (act (length records)))).deliveries records
+  pub count : r.count ≡ length (step (world (hub_of hub) region) (call id (act (length records)))).deliveries
   pub kept : (r.reply.number ≡ 0 → ⊥) → (after ≡ hub) × (recordsAfter ≡ records)
 
 -- the section question's answer in numbers
-abbrev pub inNumbers : SectionReply → SectionNumbers
-inNumbers r =
+abbrev pub in_numbers : SectionReply → SectionNumbers
+in_numbers r =
     record {
       reply = r.reply;
-      kind = kindNumber r.section.kind;
-      owner = ownerNumber r.section.kind;
+      kind = kind_number r.section.kind;
+      owner = owner_number r.section.kind;
       store = cond r.section.store 1 0;
     }
 
 abbrev pub AnswersInNumbers : List ℕ → Call → SectionNumbers → Type 0
-AnswersInNumbers hub c r = (region : List ℕ) → r ≡ inNumbers (sectionReplyOf (step (world (hubOf hub) region) c))
+AnswersInNumbers hub c r = (region : List ℕ) → r ≡ in_numbers (section_reply_of (step (world (hub_of hub) region) c))

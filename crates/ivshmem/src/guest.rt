@@ -1,16 +1,16 @@
 // The calls by a guest, but for register writes, which may ring and are in lib.rt.
 ghost use Rattle.std.specs.Prelude.{◌≡◌, cond, length};
 ghost use Rattle.device.specs.Call.{Act, call};
-ghost use Rattle.device.specs.Sections.{kindNumber, ownerNumber};
+ghost use Rattle.device.specs.Sections.{kind_number, owner_number};
 ghost use Rattle.hub.specs.Promises.{Answers, Changes, Loads, Stores};
-ghost use Rattle.ivshmem.specs.Promises.{AnswersInNumbers, inNumbers};
+ghost use Rattle.ivshmem.specs.Promises.{AnswersInNumbers, in_numbers};
 
 use super::SectionNumbers;
 use device::{Reply, SectionKind, SectionReply};
 
 #[unsafe(no_mangle)]
 pub extern "C" fn ivshmem_configuration_read(hub: &[u32], id: u64, offset: u64, width: u64) -> Reply
-    ensures { Answers hub.now (call id (Act.configurationRead offset width)) result }
+    ensures { Answers hub.now (call id (Act.configuration_read offset width)) result }
 {
     hub::configuration_read(hub, id, offset, width)
 }
@@ -23,21 +23,21 @@ pub extern "C" fn ivshmem_configuration_write(
     width: u64,
     value: u32,
 ) -> Reply
-    ensures { Changes hub.old hub.new (call id (Act.configurationWrite offset width value)) result }
+    ensures { Changes hub.old hub.new (call id (Act.configuration_write offset width value)) result }
 {
     hub::configuration_write(hub, id, offset, width, value)
 }
 
 #[unsafe(no_mangle)]
 pub extern "C" fn ivshmem_register_read(hub: &[u32], id: u64, offset: u64, width: u64) -> Reply
-    ensures { Answers hub.now (call id (Act.registerRead offset width)) result }
+    ensures { Answers hub.now (call id (Act.register_read offset width)) result }
 {
     hub::register_read(hub, id, offset, width)
 }
 
 #[unsafe(no_mangle)]
 pub extern "C" fn ivshmem_msix_read(hub: &[u32], id: u64, offset: u64, width: u64) -> Reply
-    ensures { Answers hub.now (call id (Act.msixRead offset width)) result }
+    ensures { Answers hub.now (call id (Act.msix_read offset width)) result }
 {
     hub::msix_read(hub, id, offset, width)
 }
@@ -50,13 +50,13 @@ pub extern "C" fn ivshmem_msix_write(
     width: u64,
     value: u32,
 ) -> Reply
-    ensures { Changes hub.old hub.new (call id (Act.msixWrite offset width value)) result }
+    ensures { Changes hub.old hub.new (call id (Act.msix_write offset width value)) result }
 {
     hub::msix_write(hub, id, offset, width, value)
 }
 
 fn kind_number(kind: SectionKind) -> u32
-    ensures { result ≡ kindNumber kind }
+    ensures { result ≡ kind_number kind }
 {
     match kind {
         SectionKind::Nothing => 0,
@@ -67,7 +67,7 @@ fn kind_number(kind: SectionKind) -> u32
 }
 
 fn owner_number(kind: SectionKind) -> u32
-    ensures { result ≡ ownerNumber kind }
+    ensures { result ≡ owner_number kind }
 {
     match kind {
         SectionKind::Nothing => 0,
@@ -84,7 +84,7 @@ fn flag(yes: bool) -> u32
 }
 
 fn numbered(answer: SectionReply) -> SectionNumbers
-    ensures { result ≡ inNumbers answer }
+    ensures { result ≡ in_numbers answer }
 {
     let section = answer.section;
     let kind = section.kind;

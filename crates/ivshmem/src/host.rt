@@ -2,9 +2,9 @@
 ghost use Rattle.std.specs.Prelude.{◌≡◌, cond};
 ghost use Rattle.device.specs.Call.{Act, call};
 ghost use Rattle.device.specs.Sound.{sound};
-ghost use Rattle.words.specs.Layout.{hubOf};
+ghost use Rattle.words.specs.Layout.{hub_of};
 ghost use Rattle.hub.specs.Promises.{Changes, SetsUp};
-ghost use Rattle.hub.specs.Queries.{connectedAnswer};
+ghost use Rattle.hub.specs.Queries.{connected_answer};
 ghost use Rattle.ivshmem.specs.Promises.{given};
 
 use super::SetUpNumbers;
@@ -46,14 +46,14 @@ pub extern "C" fn ivshmem_connect(hub: &mut [u32], id: u64) -> Reply
 
 #[unsafe(no_mangle)]
 pub extern "C" fn ivshmem_is_sound(hub: &[u32]) -> u32
-    ensures { result ≡ cond (sound (hubOf hub.now)) 1 0 }
+    ensures { result ≡ cond (sound (hub_of hub.now)) 1 0 }
 {
     hub::is_sound(hub)
 }
 
 #[unsafe(no_mangle)]
 pub extern "C" fn ivshmem_is_connected(hub: &[u32], id: u64) -> Reply
-    ensures { result ≡ connectedAnswer (hubOf hub.now) id }
+    ensures { result ≡ connected_answer (hub_of hub.now) id }
 {
     hub::is_connected(hub, id)
 }

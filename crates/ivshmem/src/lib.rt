@@ -53,7 +53,7 @@ pub extern "C" fn ivshmem_register_write(
     value: u32,
 ) -> Counted
     ensures { HandsOut hub.old hub.new region.old region.new
-        table.old table.new id (λ (n : ℕ). Act.registerWrite n offset width value) result }
+        table.old table.new id (λ (n : ℕ). Act.register_write n offset width value) result }
 {
     let out = hub::register_write(hub, region, table.len() as u64, id, offset, width, value);
     let count = deliveries::hand_out(hub, table, out.list);

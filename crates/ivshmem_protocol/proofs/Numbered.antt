@@ -6,7 +6,7 @@ use mathlib.Core.Path.{◌≡◌, refl}
 use Rattle.reader.specs.declared.Message.{Message}
 use Rattle.reader.specs.declared.Message.TheVariants.{More, Version, Id, Memory, Vector, Extra, Disconnected, Closed}
 use Rattle.ivshmem_protocol.specs.declared.MessageNumbers.{MessageNumbers}
-use Rattle.ivshmem_protocol.specs.Promises.{numbersOf}
+use Rattle.ivshmem_protocol.specs.Promises.{numbers_of}
 
 abbrev pub three : MessageNumbers → List ℕ
 three n = n.message ∷ n.id ∷ n.count ∷ []
@@ -26,6 +26,6 @@ numbered =
     ∷ (7 ∷ 0 ∷ 0 ∷ [])
     ∷ []
 
-pub each-in-its-place : map (λ m. three (numbersOf m)) messages ≡ numbered
+pub each_in_its_place : map (λ m. three (numbers_of m)) messages ≡ numbered
 unfolding messages numbered
-each-in-its-place = refl
+each_in_its_place = refl

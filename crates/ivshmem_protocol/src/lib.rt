@@ -1,7 +1,7 @@
 // The library with which a host reads what the server of the older ivshmem device sends, or is that server: numbers are plain and
 // memory is lent.
 ghost use Rattle.std.specs.Prelude.{◌≡◌, length};
-ghost use Rattle.ivshmem_protocol.specs.Promises.{ReadsInNumbers, numbersOf};
+ghost use Rattle.ivshmem_protocol.specs.Promises.{ReadsInNumbers, numbers_of};
 ghost use Rattle.server.specs.Serving.{Serves, started, join, leave};
 
 use reader::{Message, Progress};
@@ -36,7 +36,7 @@ pub extern "C" fn ivshmem_protocol_interface_1() -> u32
 }
 
 fn in_numbers(m: Message) -> MessageNumbers
-    ensures { result ≡ numbersOf m }
+    ensures { result ≡ numbers_of m }
 {
     match m {
         Message::More => MessageNumbers {

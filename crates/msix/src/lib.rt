@@ -1,6 +1,6 @@
 // The MSI-X region: where an offset lies, and the words of an entry, read and written.
 ghost use Rattle.std.specs.Prelude.{◌≡◌};
-ghost use Rattle.device.specs.Msix.{in_table, entryWord, withWord};
+ghost use Rattle.device.specs.Msix.{in_table, entry_word, with_word};
 
 use device::{Entry, Settings};
 
@@ -13,7 +13,7 @@ pub fn in_table(s: Settings, at: u64) -> bool
 
 // The word of an entry that an offset names.
 pub fn word(e: Entry, k: u64) -> u32
-    ensures { result ≡ entryWord e k }
+    ensures { result ≡ entry_word e k }
 {
     match k {
         0 => e.low,
@@ -25,7 +25,7 @@ pub fn word(e: Entry, k: u64) -> u32
 
 // An entry with one word stored to: each word has a mask of the bits that a store replaces, and fixed bits stay 0.
 pub fn with_word(e: Entry, k: u64, value: u32) -> Entry
-    ensures { result ≡ withWord e k value }
+    ensures { result ≡ with_word e k value }
 {
     Entry {
         low: common::choose(k == 0, value & 0xFFFFFFFC, e.low),

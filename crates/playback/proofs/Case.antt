@@ -4,28 +4,28 @@ use mathlib.Core.Bool.{false}
 use mathlib.Core.List.{List, [], ◌∷◌}
 use mathlib.Core.Path.{◌≡◌, refl, sym, ap, ◌∙◌}
 use Rattle.common.specs.Bytes.{bytes, number}
-use Rattle.common.specs.Streams.{fedTo, fedAll, fedPieces, joined}
+use Rattle.common.specs.Streams.{fed_to, fed_all, fed_pieces, joined}
 use Rattle.common.specs.Tests.{first, every, below}
 use Rattle.device.specs.declared.Settings.{Settings}
 use Rattle.device.specs.Call.{Act, call}
 use Rattle.device.specs.Effect.{effect}
 use Rattle.device.specs.History.{start}
-use Rattle.device.specs.Refusal.{lentTo, accessOf, wrongRegion, shortTable, missing, present, wrongWidth, misaligned, outside, forbidden, isConnected, refusal}
-use Rattle.device.specs.Registers.{registerRead, registerAt, memoryOn, registerValue}
-use Rattle.device.specs.SetUp.{total, accepted, setUpRefusal, freshHub}
-use Rattle.device.specs.Sizes.{maxPeers, maxVectors}
-use Rattle.device.specs.Sound.{peerFixed, peerReset, entryFixed, entryReset, peerSound, entrySound, slotSound, sound}
-use Rattle.device.specs.Step.{run, runAll, stepBy, step}
-use Rattle.device.specs.World.{World, zeroSlot, resetSlot}
-use Rattle.playback.proofs.Cutting.{cutting-changes-nothing, records-are-answered}
-use Rattle.playback.specs.Answers.{allDelivered, answer, answered, nowhere, replied, setUpNumber}
-use Rattle.playback.specs.Cutting.{playedInPieces}
-use Rattle.playback.specs.Log.{field, kind_of, requestOf, recordLength}
+use Rattle.device.specs.Refusal.{lent_to, access_of, wrong_region, short_table, missing, present, wrong_width, misaligned, outside, forbidden, is_connected, refusal}
+use Rattle.device.specs.Registers.{register_read, register_at, memory_on, register_value}
+use Rattle.device.specs.SetUp.{total, accepted, set_up_refusal, fresh_hub}
+use Rattle.device.specs.Sizes.{max_peers, max_vectors}
+use Rattle.device.specs.Sound.{peer_fixed, peer_reset, entry_fixed, entry_reset, peer_sound, entry_sound, slot_sound, sound}
+use Rattle.device.specs.Step.{run, run_all, step_by, step}
+use Rattle.device.specs.World.{World, zero_slot, reset_slot}
+use Rattle.playback.proofs.Cutting.{cutting_changes_nothing, records_are_answered}
+use Rattle.playback.specs.Answers.{all_delivered, answer, answered, nowhere, replied, set_up_number}
+use Rattle.playback.specs.Cutting.{played_in_pieces}
+use Rattle.playback.specs.Log.{field, kind_of, request_of, record_length}
 use Rattle.playback.specs.Player.{after, fed, fresh, inside, played, player}
 
 -- 00 0200 0100 00100000 0000000000000000 0000000000000000 0000100000000000 0100 0A11 0641
-unfoldable pub setUp : List ℕ
-setUp =
+unfoldable pub set_up : List ℕ
+set_up =
     0x00 ∷ 0x02 ∷ 0x00 ∷ 0x01 ∷ 0x00 ∷ 0x00 ∷ 0x10 ∷ 0x00 ∷ 0x00
     ∷ 0x00 ∷ 0x00 ∷ 0x00 ∷ 0x00 ∷ 0x00 ∷ 0x00 ∷ 0x00 ∷ 0x00
     ∷ 0x00 ∷ 0x00 ∷ 0x00 ∷ 0x00 ∷ 0x00 ∷ 0x00 ∷ 0x00 ∷ 0x00
@@ -47,33 +47,33 @@ connected : World
 connected = (step (start numbers) (call 0 Act.connect)).world
 
 answering : World
-answering = (step connected (call 0 (Act.registerRead 4 4))).world
+answering = (step connected (call 0 (Act.register_read 4 4))).world
 
-first-answer : answer nowhere (requestOf (kind_of setUp) setUp) ≡ answered (start numbers) (0x81 ∷ [])
-unfolding setUp field kind_of requestOf number answer replied setUpNumber setUpRefusal first every total accepted maxPeers maxVectors allDelivered
-first-answer = refl
+first_answer : answer nowhere (request_of (kind_of set_up) set_up) ≡ answered (start numbers) (0x81 ∷ [])
+unfolding set_up field kind_of request_of number answer replied set_up_number set_up_refusal first every total accepted max_peers max_vectors all_delivered
+first_answer = refl
 
-second-answer : answer (start numbers) (requestOf (kind_of joins) joins) ≡ answered connected (0x81 ∷ [])
-unfolding connected joins number field kind_of requestOf answer replied allDelivered step stepBy run runAll effect start freshHub
-    resetSlot zeroSlot refusal first every below lentTo accessOf wrongRegion shortTable missing present wrongWidth misaligned
-    outside forbidden isConnected sound accepted total maxPeers maxVectors slotSound peerSound entrySound peerFixed peerReset
-    entryFixed entryReset
-second-answer = refl
+second_answer : answer (start numbers) (request_of (kind_of joins) joins) ≡ answered connected (0x81 ∷ [])
+unfolding connected joins number field kind_of request_of answer replied all_delivered step step_by run run_all effect start fresh_hub
+    reset_slot zero_slot refusal first every below lent_to access_of wrong_region short_table missing present wrong_width misaligned
+    outside forbidden is_connected sound accepted total max_peers max_vectors slot_sound peer_sound entry_sound peer_fixed peer_reset
+    entry_fixed entry_reset
+second_answer = refl
 
-third-answer : answer connected (requestOf (kind_of asks) asks) ≡ answered answering (0x82 ∷ 0xFF ∷ 0xFF ∷ 0xFF ∷ 0xFF ∷ [])
-unfolding connected answering asks bytes number field kind_of requestOf answer replied step stepBy run runAll effect registerRead
-    registerAt registerValue memoryOn start freshHub resetSlot zeroSlot refusal first every below lentTo accessOf wrongRegion
-    shortTable missing present wrongWidth misaligned outside forbidden isConnected sound accepted total maxPeers maxVectors
-    slotSound peerSound entrySound peerFixed peerReset entryFixed entryReset
-third-answer = refl
+third_answer : answer connected (request_of (kind_of asks) asks) ≡ answered answering (0x82 ∷ 0xFF ∷ 0xFF ∷ 0xFF ∷ 0xFF ∷ [])
+unfolding connected answering asks bytes number field kind_of request_of answer replied step step_by run run_all effect register_read
+    register_at register_value memory_on start fresh_hub reset_slot zero_slot refusal first every below lent_to access_of wrong_region
+    short_table missing present wrong_width misaligned outside forbidden is_connected sound accepted total max_peers max_vectors
+    slot_sound peer_sound entry_sound peer_fixed peer_reset entry_fixed entry_reset
+third_answer = refl
 
 -- 81, 81, 82 FFFFFFFF
-pub the-case : played (joined (setUp ∷ joins ∷ asks ∷ [])) ≡ 0x81 ∷ 0x81 ∷ 0x82 ∷ 0xFF ∷ 0xFF ∷ 0xFF ∷ 0xFF ∷ []
-unfolding setUp joins asks kind_of recordLength fedPieces playedInPieces inside
-the-case =
-    let one : fedAll fed fresh setUp ≡ fedTo (player (start numbers) [] false) (0x81 ∷ []) = records-are-answered nowhere setUp refl ∙ ap after first-answer in
-    let two : fedAll fed (player (start numbers) [] false) joins ≡ fedTo (player connected [] false) (0x81 ∷ []) =
-    records-are-answered (start numbers) joins refl ∙ ap after second-answer in
-    let three : fedAll fed (player connected [] false) asks ≡ fedTo (player answering [] false) (0x82 ∷ 0xFF ∷ 0xFF ∷ 0xFF ∷ 0xFF ∷ []) =
-    records-are-answered connected asks refl ∙ ap after third-answer in
-    sym (cutting-changes-nothing (setUp ∷ joins ∷ asks ∷ [])) ∙ rw (one, two, three)
+pub the_case : played (joined (set_up ∷ joins ∷ asks ∷ [])) ≡ 0x81 ∷ 0x81 ∷ 0x82 ∷ 0xFF ∷ 0xFF ∷ 0xFF ∷ 0xFF ∷ []
+unfolding set_up joins asks kind_of record_length fed_pieces played_in_pieces inside
+the_case =
+    let one : fed_all fed fresh set_up ≡ fed_to (player (start numbers) [] false) (0x81 ∷ []) = records_are_answered nowhere set_up refl ∙ ap after first_answer in
+    let two : fed_all fed (player (start numbers) [] false) joins ≡ fed_to (player connected [] false) (0x81 ∷ []) =
+    records_are_answered (start numbers) joins refl ∙ ap after second_answer in
+    let three : fed_all fed (player connected [] false) asks ≡ fed_to (player answering [] false) (0x82 ∷ 0xFF ∷ 0xFF ∷ 0xFF ∷ 0xFF ∷ []) =
+    records_are_answered connected asks refl ∙ ap after third_answer in
+    sym (cutting_changes_nothing (set_up ∷ joins ∷ asks ∷ [])) ∙ rw (one, two, three)

@@ -10,51 +10,51 @@ use lib.ListN.{length, take, drop, get_or, length-append, length-take, length-dr
 use lib.Seq.{take-suc, drop-cons}
 use borrow.Author.Tests.{lt-ltb, le-ltb, leb-false, ltb-false, leb-true, ltb-true}
 use borrow.Rule.Slice.PartMut.{put_mid}
-use Rattle.common.specs.Streams.{fedTo, fedAll}
-use Rattle.playback.proofs.OverLaws.{length_over, nothing-over, over-then}
-use Rattle.common.proofs.StreamLaws.{fed-append}
+use Rattle.common.specs.Streams.{fed_to, fed_all}
+use Rattle.playback.proofs.OverLaws.{length_over, nothing_over, over_then}
+use Rattle.common.proofs.StreamLaws.{fed_append}
 use Rattle.common.proofs.TestLaws.{and_left, and_right}
 use Rattle.playback.specs.declared.Progress.{Progress}
 use Rattle.playback.specs.Answers.{longest}
 use Rattle.playback.specs.Player.{Player, fed}
-use Rattle.playback.specs.Promises.{Goes, Lent, playerIn, takenWithin}
+use Rattle.playback.specs.Promises.{Goes, Lent, player_in, taken_within}
 
 -- i bytes of a piece are fed, and at bytes are written
 pub record FedSoFar (p₀ : Player) (hub region held piece out₀ out : List ℕ) (p : Progress) (i at : ℕ) : Type 0 where
   pub within : i ≤ length piece
-  pub goes : Goes hub region held out₀ out p at (fedAll fed p₀ (take i piece))
-  pub left : takenWithin (length out₀) p₀ piece ≡ i + takenWithin (length out₀ - at) (playerIn hub region held p) (drop i piece)
+  pub goes : Goes hub region held out₀ out p at (fed_all fed p₀ (take i piece))
+  pub left : taken_within (length out₀) p₀ piece ≡ i + taken_within (length out₀ - at) (player_in hub region held p) (drop i piece)
 
-pub fed-none : (hub region held piece out : List ℕ) (p : Progress) → Lent hub region held p
-    → FedSoFar (playerIn hub region held p) hub region held piece out out p 0 0
-unfolding fedAll
-fed-none hub region held piece out p lent =
+pub fed_none : (hub region held piece out : List ℕ) (p : Progress) → Lent hub region held p
+    → FedSoFar (player_in hub region held p) hub region held piece out out p 0 0
+unfolding fed_all
+fed_none hub region held piece out p lent =
     let n : length out - 0 ≡ length out = omega arith in
     record {
       within = omega arith;
-      goes = record { player = refl; written = record { bytes = sym (nothing-over out); count = refl; fits = omega arith }; lent = lent };
+      goes = record { player = refl; written = record { bytes = sym (nothing_over out); count = refl; fits = omega arith }; lent = lent };
       left = rw n (omega arith);
     }
 
 -- feeding one byte after others
-fed-one : (p : Player) (bs : List ℕ) (b : ℕ)
-    → fedAll fed p (bs ++ (b ∷ [])) ≡ fedTo (fed (fedAll fed p bs).machine b).machine ((fedAll fed p bs).written ++ (fed (fedAll fed p bs).machine b).written)
-unfolding fedAll
-fed-one p bs b = fed-append fed p bs (b ∷ []) ∙ rw append-nil
+fed_one : (p : Player) (bs : List ℕ) (b : ℕ)
+    → fed_all fed p (bs ++ (b ∷ [])) ≡ fed_to (fed (fed_all fed p bs).machine b).machine ((fed_all fed p bs).written ++ (fed (fed_all fed p bs).machine b).written)
+unfolding fed_all
+fed_one p bs b = fed_append fed p bs (b ∷ []) ∙ rw append-nil
 
-taken-one : (room : ℕ) (p : Player) (b : ℕ) (bs : List ℕ) → longest ≤ room
-    → takenWithin room p (b ∷ bs) ≡ suc (takenWithin (room - length (fed p b).written) (fed p b).machine bs)
-unfolding takenWithin
-taken-one room p b bs h = rw (le-ltb room longest h)
+taken_one : (room : ℕ) (p : Player) (b : ℕ) (bs : List ℕ) → longest ≤ room
+    → taken_within room p (b ∷ bs) ≡ suc (taken_within (room - length (fed p b).written) (fed p b).machine bs)
+unfolding taken_within
+taken_one room p b bs h = rw (le-ltb room longest h)
 
-taken_none : (room : ℕ) (p : Player) → takenWithin room p [] ≡ 0
-unfolding takenWithin
+taken_none : (room : ℕ) (p : Player) → taken_within room p [] ≡ 0
+unfolding taken_within
 taken_none room p = refl
 
-taken-full : (room : ℕ) (p : Player) (bs : List ℕ) → room < longest → takenWithin room p bs ≡ 0
-unfolding takenWithin
-taken-full room p [] h = refl
-taken-full room p (b ∷ bs) h = rw (lt-ltb room longest h)
+taken_full : (room : ℕ) (p : Player) (bs : List ℕ) → room < longest → taken_within room p bs ≡ 0
+unfolding taken_within
+taken_full room p [] h = refl
+taken_full room p (b ∷ bs) h = rw (lt-ltb room longest h)
 
 -- what holds where a turn of the loop begins: there is a byte to feed, and room for its answer
 pub record Turn (piece out₀ out : List ℕ) (i at : ℕ) : Type 0 where
@@ -63,37 +63,37 @@ pub record Turn (piece out₀ out : List ℕ) (i at : ℕ) : Type 0 where
   pub same : length out ≡ length out₀
 
 module _ (p₀ : Player) (hub region held piece out₀ out : List ℕ) (p : Progress) (i at : ℕ) (s : FedSoFar p₀ hub region held piece out₀ out p i at) where
-  pub same-room : length out ≡ length out₀
-  same-room = ap length s.goes.written.bytes ∙ length_over _ out₀ (rw (← s.goes.written.count) s.goes.written.fits)
+  pub same_room : length out ≡ length out₀
+  same_room = ap length s.goes.written.bytes ∙ length_over _ out₀ (rw (← s.goes.written.count) s.goes.written.fits)
 
-  pub turn-begins : (last : ℕ) → last ≡ longest → longest ≤ length out₀ →
+  pub turn_begins : (last : ℕ) → last ≡ longest → longest ≤ length out₀ →
       (ltb i (length piece) && leb at (length out₀ - last)) ≡ true → Turn piece out₀ out i at
-  turn-begins last long room e =
+  turn_begins last long room e =
       let fits : at ≤ length out₀ - last = leb-true _ _ (and_right (ltb i (length piece)) (leb at (length out₀ - last)) e) in
       record {
         byte = ltb-true _ _ (and_left (ltb i (length piece)) (leb at (length out₀ - last)) e);
         room = omega arith;
-        same = same-room;
+        same = same_room;
       }
 
-  pub fed-more : (hubAfter regionAfter heldAfter rest : List ℕ) (next : Progress) (n : ℕ) → i < length piece → longest ≤ length out₀ - at
-      → Goes hubAfter regionAfter heldAfter (take (length out - at) (drop at out)) rest next n (fed (playerIn hub region held p) (get_or piece i 0))
+  pub fed_more : (hubAfter regionAfter heldAfter rest : List ℕ) (next : Progress) (n : ℕ) → i < length piece → longest ≤ length out₀ - at
+      → Goes hubAfter regionAfter heldAfter (take (length out - at) (drop at out)) rest next n (fed (player_in hub region held p) (get_or piece i 0))
       → FedSoFar p₀ hubAfter regionAfter heldAfter piece out₀ (put_mid at (length out - at) out rest) next (i + 1) (at + n)
-  fed-more hubAfter regionAfter heldAfter rest next n l room g =
-      let f = fedAll fed p₀ (take i piece) in
+  fed_more hubAfter regionAfter heldAfter rest next n l room g =
+      let f = fed_all fed p₀ (take i piece) in
       let b = get_or piece i 0 in
-      let q = playerIn hub region held p in
+      let q = player_in hub region held p in
       let w = s.goes.written in
       let same : q ≡ f.machine = s.goes.player in
-      let all : fedAll fed p₀ (take (i + 1) piece) ≡ fedTo (fed q b).machine (f.written ++ (fed q b).written) =
-      rw (add-one i, take-suc piece i 0 l, fed-one p₀ (take i piece) b, same) in
+      let all : fed_all fed p₀ (take (i + 1) piece) ≡ fed_to (fed q b).machine (f.written ++ (fed q b).written) =
+      rw (add-one i, take-suc piece i 0 l, fed_one p₀ (take i piece) b, same) in
       let atlong : length f.written ≡ at = sym w.count in
-      let put = over-then at f.written out₀ atlong w.fits out (fed q b).written rest w.bytes g.written.bytes in
-      let part : length (take (length out - at) (drop at out)) ≡ length out₀ - at = simp (length-take, length-drop) (omega (arith, same-room)) in
+      let put = over_then at f.written out₀ atlong w.fits out (fed q b).written rest w.bytes g.written.bytes in
+      let part : length (take (length out - at) (drop at out)) ≡ length out₀ - at = simp (length-take, length-drop) (omega (arith, same_room)) in
       let rest-room : length out₀ - at - length (fed q b).written ≡ length out₀ - (at + n) = omega (arith, g.written.count) in
-      let more : takenWithin (length out₀ - at) q (drop i piece)
-      ≡ suc (takenWithin (length out₀ - (at + n)) (playerIn hubAfter regionAfter heldAfter next) (drop (i + 1) piece)) =
-      rw (drop-cons piece i 0 l, taken-one (length out₀ - at) q b (drop (suc i) piece) room, rest-room, ← g.player, ← (add-one i)) in
+      let more : taken_within (length out₀ - at) q (drop i piece)
+      ≡ suc (taken_within (length out₀ - (at + n)) (player_in hubAfter regionAfter heldAfter next) (drop (i + 1) piece)) =
+      rw (drop-cons piece i 0 l, taken_one (length out₀ - at) q b (drop (suc i) piece) room, rest-room, ← g.player, ← (add-one i)) in
       record {
         within = omega arith;
         goes =
@@ -110,13 +110,13 @@ module _ (p₀ : Player) (hub region held piece out₀ out : List ℕ) (p : Prog
         left = s.left ∙ rw more (omega arith);
       }
 
-  pub fed-end : (last : ℕ) → last ≡ length out₀ - longest → (ltb i (length piece) && leb at last) ≡ false → i ≡ takenWithin (length out₀) p₀ piece
-  fed-end last e stop = sym (s.left ∙ go (ltb i (length piece)) refl)
+  pub fed_end : (last : ℕ) → last ≡ length out₀ - longest → (ltb i (length piece) && leb at last) ≡ false → i ≡ taken_within (length out₀) p₀ piece
+  fed_end last e stop = sym (s.left ∙ go (ltb i (length piece)) refl)
     where
-      go : (t : Bool) → ltb i (length piece) ≡ t → i + takenWithin (length out₀ - at) (playerIn hub region held p) (drop i piece) ≡ i
+      go : (t : Bool) → ltb i (length piece) ≡ t → i + taken_within (length out₀ - at) (player_in hub region held p) (drop i piece) ≡ i
       go true t =
           let late : last < at = leb-false at last (rw t at stop) in
-          rw (taken-full (length out₀ - at) (playerIn hub region held p) (drop i piece) (omega (arith, s.goes.written.fits))) (omega arith)
+          rw (taken_full (length out₀ - at) (player_in hub region held p) (drop i piece) (omega (arith, s.goes.written.fits))) (omega arith)
       go false t =
           let none : drop i piece ≡ [] = drop_of_length-le piece {i = i} (ltb-false i (length piece) t) in
-          rw (none, taken_none (length out₀ - at) (playerIn hub region held p)) (omega arith)
+          rw (none, taken_none (length out₀ - at) (player_in hub region held p)) (omega arith)

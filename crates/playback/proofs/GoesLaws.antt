@@ -7,33 +7,33 @@ use native.Mathlib.Omega.{arith}
 use lib.ListN.{length, take, drop, get_or, set, length-set}
 use lib.Seq.{take_at}
 use Rattle.device.specs.World.{World}
-use Rattle.playback.proofs.HeldLaws.{byte-held, byte-answered}
+use Rattle.playback.proofs.HeldLaws.{byte_held, byte_answered}
 use Rattle.playback.proofs.LentLaws.{lent_back}
-use Rattle.playback.proofs.OverLaws.{nothing-over}
-use Rattle.playback.proofs.RecordLaws.{record-short}
+use Rattle.playback.proofs.OverLaws.{nothing_over}
+use Rattle.playback.proofs.RecordLaws.{record_short}
 use Rattle.playback.specs.declared.Progress.{Progress}
 use Rattle.playback.specs.Answers.{answer}
-use Rattle.playback.specs.Log.{Request, kind_of, longestRecord, recordLength, requestOf}
+use Rattle.playback.specs.Log.{Request, kind_of, longest_record, record_length, request_of}
 use Rattle.playback.specs.Player.{player, after, fed}
-use Rattle.playback.specs.Promises.{Answers, Goes, Lent, Writes, worldIn, playerIn}
+use Rattle.playback.specs.Promises.{Answers, Goes, Lent, Writes, world_in, player_in}
 
 -- nothing is held
-abbrev pub inUse : (words bytes : ℕ) → Bool → Progress
-inUse words bytes stopped = record { words = words; bytes = bytes; held = 0; stopped = stopped }
+abbrev pub in_use : (words bytes : ℕ) → Bool → Progress
+in_use words bytes stopped = record { words = words; bytes = bytes; held = 0; stopped = stopped }
 
 module _ (hub region held out outAfter : List ℕ) (words bytes n : ℕ) where
-  pub unknown-goes : Lent hub region held (inUse words bytes true) → Writes out outAfter (0x85 ∷ []) n
-      → Goes hub region held out outAfter (inUse words bytes true) n (after (answer (worldIn hub region words bytes) Request.unknown))
+  pub unknown_goes : Lent hub region held (in_use words bytes true) → Writes out outAfter (0x85 ∷ []) n
+      → Goes hub region held out outAfter (in_use words bytes true) n (after (answer (world_in hub region words bytes) Request.unknown))
   unfolding answer
-  unknown-goes lent w = record { player = refl; written = w; lent = lent }
+  unknown_goes lent w = record { player = refl; written = w; lent = lent }
 
   -- the parts in use were lent to a call, and came back
-  pub call-goes : (hubAfter regionAfter : List ℕ) (q : Request) → (answer (worldIn hub region words bytes) q).stops ≡ false
-      → Lent hub region held (inUse words bytes false) → length hubAfter ≡ words → length regionAfter ≡ bytes
+  pub call_goes : (hubAfter regionAfter : List ℕ) (q : Request) → (answer (world_in hub region words bytes) q).stops ≡ false
+      → Lent hub region held (in_use words bytes false) → length hubAfter ≡ words → length regionAfter ≡ bytes
       → Answers (take words hub) hubAfter (take bytes region) regionAfter out outAfter q n
-      → Goes (hubAfter ++ drop words hub) (regionAfter ++ drop bytes region) held out outAfter (inUse words bytes false) n
-      (after (answer (worldIn hub region words bytes) q))
-  call-goes hubAfter regionAfter q on lent nh nr a =
+      → Goes (hubAfter ++ drop words hub) (regionAfter ++ drop bytes region) held out outAfter (in_use words bytes false) n
+      (after (answer (world_in hub region words bytes) q))
+  call_goes hubAfter regionAfter q on lent nh nr a =
       record {
         player = rw (take_at hubAfter (drop words hub) words nh, take_at regionAfter (drop bytes region) bytes nr, on)
             (ap (λ (w : World). player w [] false) a.left);
@@ -43,12 +43,12 @@ module _ (hub region held out outAfter : List ℕ) (words bytes n : ℕ) where
 
 -- one byte: of a stopped player, of a record that is not whole with it, and of one that is
 module _ (hub region held out : List ℕ) (p : Progress) (byte : ℕ) (lent : Lent hub region held p) where
-  pub ignored-goes : p.stopped ≡ true → Goes hub region held out out p 0 (fed (playerIn hub region held p) byte)
+  pub ignored_goes : p.stopped ≡ true → Goes hub region held out out p 0 (fed (player_in hub region held p) byte)
   unfolding fed
-  ignored-goes e =
+  ignored_goes e =
       record {
         player = rw e;
-        written = record { bytes = rw e (sym (nothing-over out)); count = rw e; fits = omega arith };
+        written = record { bytes = rw e (sym (nothing_over out)); count = rw e; fits = omega arith };
         lent = lent;
       }
 
@@ -58,28 +58,28 @@ module _ (hub region held out : List ℕ) (p : Progress) (byte : ℕ) (lent : Le
   abbrev pub longer : Progress
   longer = record { words = p.words; bytes = p.bytes; held = p.held + 1; stopped = false }
 
-  pub held-goes : p.stopped ≡ false → p.held + 1 < recordLength (get_or more 0 0) → Goes hub region more out out longer 0
-      (fed (playerIn hub region held p) byte)
-  held-goes e l =
-      let b = byte-held (worldIn hub region p.words p.bytes) held p.held byte lent.few l in
-      let few : p.held + 1 < length held = omega (arith, record-short (get_or more 0 0), lent.heldLength) in
+  pub held_goes : p.stopped ≡ false → p.held + 1 < record_length (get_or more 0 0) → Goes hub region more out out longer 0
+      (fed (player_in hub region held p) byte)
+  held_goes e l =
+      let b = byte_held (world_in hub region p.words p.bytes) held p.held byte lent.few l in
+      let few : p.held + 1 < length held = omega (arith, record_short (get_or more 0 0), lent.held_length) in
       record {
         player = rw (e, b);
-        written = record { bytes = rw (e, b) (sym (nothing-over out)); count = rw (e, b); fits = omega arith };
+        written = record { bytes = rw (e, b) (sym (nothing_over out)); count = rw (e, b); fits = omega arith };
         lent =
             record {
-              hubLength = lent.hubLength;
-              regionLength = lent.regionLength;
-              heldLength = simp length-set lent.heldLength;
+              hub_length = lent.hub_length;
+              region_length = lent.region_length;
+              held_length = simp length-set lent.held_length;
               words = lent.words;
               bytes = lent.bytes;
               few = simp length-set few;
             };
       }
 
-  pub answered-goes : (hubAfter regionAfter outAfter : List ℕ) (next : Progress) (n : ℕ) → p.stopped ≡ false → recordLength (get_or more 0 0) ≤ p.held + 1
-      → ((h : List ℕ) → length h ≡ longestRecord → Goes hubAfter regionAfter h out outAfter next n
-      (after (answer (worldIn hub region p.words p.bytes) (requestOf (kind_of (take (p.held + 1) more)) (take (p.held + 1) more)))))
-      → Goes hubAfter regionAfter more out outAfter next n (fed (playerIn hub region held p) byte)
-  answered-goes hubAfter regionAfter outAfter next n e l g =
-      rw (e, byte-answered (worldIn hub region p.words p.bytes) held p.held byte lent.few l) (g more (simp length-set lent.heldLength))
+  pub answered_goes : (hubAfter regionAfter outAfter : List ℕ) (next : Progress) (n : ℕ) → p.stopped ≡ false → record_length (get_or more 0 0) ≤ p.held + 1
+      → ((h : List ℕ) → length h ≡ longest_record → Goes hubAfter regionAfter h out outAfter next n
+      (after (answer (world_in hub region p.words p.bytes) (request_of (kind_of (take (p.held + 1) more)) (take (p.held + 1) more)))))
+      → Goes hubAfter regionAfter more out outAfter next n (fed (player_in hub region held p) byte)
+  answered_goes hubAfter regionAfter outAfter next n e l g =
+      rw (e, byte_answered (world_in hub region p.words p.bytes) held p.held byte lent.few l) (g more (simp length-set lent.held_length))

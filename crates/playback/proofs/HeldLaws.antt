@@ -8,10 +8,10 @@ use native.Mathlib.Omega.{arith}
 use lib.ListN.{length, take, get_or, set, length-set}
 use lib.Seq.{take-suc-set, length-take-le, get_or-take}
 use borrow.Author.Tests.{le-leb, lt-leb}
-use Rattle.common.specs.Streams.{fedTo}
+use Rattle.common.specs.Streams.{fed_to}
 use Rattle.device.specs.World.{World}
 use Rattle.playback.specs.Answers.{answer}
-use Rattle.playback.specs.Log.{kind_of, recordLength, requestOf, whole}
+use Rattle.playback.specs.Log.{kind_of, record_length, request_of, whole}
 use Rattle.playback.specs.Player.{player, after, come, fed}
 
 module _ (w : World) (held : List ℕ) (at byte : ℕ) (h : at < length held) where
@@ -29,19 +29,19 @@ module _ (w : World) (held : List ℕ) (at byte : ℕ) (h : at < length held) wh
   unfolding kind_of
   kind = get_or-take (at + 1) (set held at byte) 0 0 (omega arith)
 
-  pub byte-held : at + 1 < recordLength (get_or (set held at byte) 0 0) → fed (player w (take at held) false) byte ≡ fedTo (player w now false) []
+  pub byte_held : at + 1 < record_length (get_or (set held at byte) 0 0) → fed (player w (take at held) false) byte ≡ fed_to (player w now false) []
   unfolding fed come whole
-  byte-held l = rw (joined, kind, long, lt-leb _ _ l)
+  byte_held l = rw (joined, kind, long, lt-leb _ _ l)
 
-  pub byte-answered : recordLength (get_or (set held at byte) 0 0) ≤ at + 1
-      → fed (player w (take at held) false) byte ≡ after (answer w (requestOf (kind_of now) now))
+  pub byte_answered : record_length (get_or (set held at byte) 0 0) ≤ at + 1
+      → fed (player w (take at held) false) byte ≡ after (answer w (request_of (kind_of now) now))
   unfolding fed come whole
-  byte-answered l = rw joined (rw (kind, long, le-leb _ _ l))
+  byte_answered l = rw joined (rw (kind, long, le-leb _ _ l))
 
   -- a whole record has all its bytes
-  pub record-whole : recordLength (get_or (set held at byte) 0 0) ≤ at + 1 → recordLength (kind_of now) ≤ length now
-  record-whole l = rw (kind, long) l
+  pub record_whole : record_length (get_or (set held at byte) 0 0) ≤ at + 1 → record_length (kind_of now) ≤ length now
+  record_whole l = rw (kind, long) l
 
-pub byte-ignored : (w : World) (held : List ℕ) (byte : ℕ) → fed (player w held true) byte ≡ fedTo (player w held true) []
+pub byte_ignored : (w : World) (held : List ℕ) (byte : ℕ) → fed (player w held true) byte ≡ fed_to (player w held true) []
 unfolding fed
-byte-ignored w held byte = refl
+byte_ignored w held byte = refl

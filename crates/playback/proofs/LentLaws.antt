@@ -13,36 +13,36 @@ use Rattle.common.specs.Tests.{first}
 use Rattle.playback.specs.declared.Progress.{Progress}
 use Rattle.playback.specs.Answers.{longest}
 use Rattle.playback.specs.Player.{inside}
-use Rattle.playback.specs.Promises.{Lent, lentTests, isLent, playerIn, refusalOf}
+use Rattle.playback.specs.Promises.{Lent, lent_tests, is_lent, player_in, refusal_of}
 
 module _ (hub region held : List ℕ) (p : Progress) where
-  pub lent-facts : isLent hub region held p ≡ true → Lent hub region held p
-  unfolding isLent
-  lent-facts e =
-      let t = every_true (lentTests hub region held p) e in
+  pub lent_facts : is_lent hub region held p ≡ true → Lent hub region held p
+  unfolding is_lent
+  lent_facts e =
+      let t = every_true (lent_tests hub region held p) e in
       record {
-        hubLength = eqb-true _ _ (t 0);
-        regionLength = eqb-true _ _ (t 1);
-        heldLength = eqb-true _ _ (t 2);
+        hub_length = eqb-true _ _ (t 0);
+        region_length = eqb-true _ _ (t 1);
+        held_length = eqb-true _ _ (t 2);
         words = leb-true _ _ (t 3);
         bytes = leb-true _ _ (t 4);
         few = ltb-true _ _ (t 5);
       }
 
-  pub not-lent : (room : ℕ) → isLent hub region held p ≡ false → 10 ≡ refusalOf hub region held p room
-  unfolding refusalOf first
-  not-lent room e = rw e
+  pub not_lent : (room : ℕ) → is_lent hub region held p ≡ false → 10 ≡ refusal_of hub region held p room
+  unfolding refusal_of first
+  not_lent room e = rw e
 
-  pub no_room : (room : ℕ) → isLent hub region held p ≡ true → ltb room longest ≡ true → 11 ≡ refusalOf hub region held p room
-  unfolding refusalOf first
+  pub no_room : (room : ℕ) → is_lent hub region held p ≡ true → ltb room longest ≡ true → 11 ≡ refusal_of hub region held p room
+  unfolding refusal_of first
   no_room room e l = rw (e, l)
 
-  pub no-refusal : (room : ℕ) → isLent hub region held p ≡ true → ltb room longest ≡ false → 0 ≡ refusalOf hub region held p room
-  unfolding refusalOf first
-  no-refusal room e l = rw (e, l)
+  pub no_refusal : (room : ℕ) → is_lent hub region held p ≡ true → ltb room longest ≡ false → 0 ≡ refusal_of hub region held p room
+  unfolding refusal_of first
+  no_refusal room e l = rw (e, l)
 
   -- the end of the input, by the progress alone
-  pub inside_is : Lent hub region held p → inside (playerIn hub region held p) ≡ (not p.stopped && not (eqb p.held 0))
+  pub inside_is : Lent hub region held p → inside (player_in hub region held p) ≡ (not p.stopped && not (eqb p.held 0))
   unfolding inside
   inside_is lent = let l : p.held ≤ length held = omega (arith, lent.few) in rw (length-take-le p.held held l)
 
@@ -51,9 +51,9 @@ module _ (hub region held : List ℕ) (p : Progress) where
       → Lent (hubAfter ++ drop p.words hub) (regionAfter ++ drop p.bytes region) held p
   lent_back hubAfter regionAfter nh nr lent =
       record {
-        hubLength = simp (length-append, length-drop) (omega (arith, lent.words, lent.hubLength));
-        regionLength = simp (length-append, length-drop) (omega (arith, lent.bytes, lent.regionLength));
-        heldLength = lent.heldLength;
+        hub_length = simp (length-append, length-drop) (omega (arith, lent.words, lent.hub_length));
+        region_length = simp (length-append, length-drop) (omega (arith, lent.bytes, lent.region_length));
+        held_length = lent.held_length;
         words = simp (length-append, length-drop) (omega (arith, lent.words));
         bytes = simp (length-append, length-drop) (omega (arith, lent.bytes));
         few = lent.few;

@@ -8,17 +8,17 @@ use lib.Seq.{sets-eq, take_at, drop_at, take-length, drop-drop}
 use borrow.Rule.Slice.PartMut.{put_mid}
 use Rattle.common.specs.Lists.{over}
 
-pub one-over : (l : List ℕ) (a : ℕ) → 1 ≤ length l → set l 0 a ≡ over (a ∷ []) l
+pub one_over : (l : List ℕ) (a : ℕ) → 1 ≤ length l → set l 0 a ≡ over (a ∷ []) l
 unfolding over
-one-over l a h = sets-eq (a ∷ []) l 0 (omega arith)
+one_over l a h = sets-eq (a ∷ []) l 0 (omega arith)
 
-pub two-over : (l : List ℕ) (a b : ℕ) → 2 ≤ length l → set (set l 0 a) 1 b ≡ over (a ∷ b ∷ []) l
+pub two_over : (l : List ℕ) (a b : ℕ) → 2 ≤ length l → set (set l 0 a) 1 b ≡ over (a ∷ b ∷ []) l
 unfolding over
-two-over l a b h = sets-eq (a ∷ b ∷ []) l 0 (omega arith)
+two_over l a b h = sets-eq (a ∷ b ∷ []) l 0 (omega arith)
 
-pub nothing-over : (l : List ℕ) → over [] l ≡ l
+pub nothing_over : (l : List ℕ) → over [] l ≡ l
 unfolding over
-nothing-over l = refl
+nothing_over l = refl
 
 pub length_over : (new old : List ℕ) → length new ≤ length old → length (over new old) ≡ length old
 unfolding over
@@ -36,10 +36,10 @@ module _ (k : ℕ) (a old : List ℕ) (e : length a ≡ k) (h : k ≤ length old
   after = drop_of_length-le _ {i = length (over a old) - k} (simp length-drop (omega arith))
 
   -- the part from k on was lent, and came back with b over its front
-  pub over-then : (mid b rest : List ℕ) → mid ≡ over a old → rest ≡ over b (take (length mid - k) (drop k mid))
+  pub over_then : (mid b rest : List ℕ) → mid ≡ over a old → rest ≡ over b (take (length mid - k) (drop k mid))
       → put_mid k (length mid - k) mid rest ≡ over (a ++ b) old
   unfolding over
-  over-then mid b rest m r =
+  over_then mid b rest m r =
       let back : rest ≡ b ++ drop (length b) (drop k old) = r ∙ rw (m, behind) in
       let front : take k (a ++ drop (length a) old) ≡ a = take_at a (drop (length a) old) k e in
       let all : k + length b ≡ length (a ++ b) = rw length-append (omega arith) in

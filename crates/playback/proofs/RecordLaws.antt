@@ -9,37 +9,37 @@ use lib.ListN.{length, get_or}
 use borrow.Author.Tests.{leb-true, ne_eqb}
 use Rattle.common.proofs.TestLaws.{and_left, and_right, by_equal}
 use Rattle.playback.specs.Answers.{answer}
-use Rattle.playback.specs.Log.{Request, bodies, recordLength, requestOf, longestRecord}
+use Rattle.playback.specs.Log.{Request, bodies, record_length, request_of, longest_record}
 use Rattle.device.specs.World.{World}
 
-abbrev allShort : List ℕ → Bool
-allShort [] = true
-allShort (x ∷ l) = leb x 38 && allShort l
+abbrev all_short : List ℕ → Bool
+all_short [] = true
+all_short (x ∷ l) = leb x 38 && all_short l
 
-short : (l : List ℕ) → allShort l ≡ true → (k : ℕ) → get_or l k 0 ≤ 38
+short : (l : List ℕ) → all_short l ≡ true → (k : ℕ) → get_or l k 0 ≤ 38
 short [] e k = omega arith
-short (x ∷ l) e zero = leb-true x 38 (and_left (leb x 38) (allShort l) e)
-short (x ∷ l) e (suc k) = short l (and_right (leb x 38) (allShort l) e) k
+short (x ∷ l) e zero = leb-true x 38 (and_left (leb x 38) (all_short l) e)
+short (x ∷ l) e (suc k) = short l (and_right (leb x 38) (all_short l) e) k
 
-pub body-short : (kind : ℕ) → get_or bodies kind 0 ≤ 38
-body-short kind = short bodies refl kind
+pub body_short : (kind : ℕ) → get_or bodies kind 0 ≤ 38
+body_short kind = short bodies refl kind
 
-pub record-short : (kind : ℕ) → recordLength kind ≤ longestRecord
-unfolding recordLength
-record-short kind = omega (arith, body-short kind)
+pub record_short : (kind : ℕ) → record_length kind ≤ longest_record
+unfolding record_length
+record_short kind = omega (arith, body_short kind)
 
-pub record-some : (kind : ℕ) → 1 ≤ recordLength kind
-unfolding recordLength
-record-some kind = omega arith
+pub record_some : (kind : ℕ) → 1 ≤ record_length kind
+unfolding record_length
+record_some kind = omega arith
 
 past : (l : List ℕ) (k : ℕ) → length l ≤ k → get_or l k 0 ≡ 0
 past [] k h = refl
 past (x ∷ l) zero h = absurd (omega arith)
 past (x ∷ l) (suc k) h = past l k (omega arith)
 
-pub unknown-length : (kind : ℕ) → 12 ≤ kind → recordLength kind ≡ 1
-unfolding recordLength
-unknown-length kind h = rw (past bodies kind h)
+pub unknown_length : (kind : ℕ) → 12 ≤ kind → record_length kind ≡ 1
+unfolding record_length
+unknown_length kind h = rw (past bodies kind h)
 
 -- a number that is not the next above a bound either
 pub above : (n k : ℕ) → n < k → (k ≡ suc n → ⊥) → suc n < k
@@ -49,9 +49,9 @@ pub eleven : (k : ℕ) → 10 < k → k < 12 → k ≡ 11
 eleven k h l = omega arith
 
 -- a kind above 0B asks for nothing, and no other stops the player
-pub unknown-request : (kind : ℕ) (r : List ℕ) → 12 ≤ kind → requestOf kind r ≡ Request.unknown
-unfolding requestOf
-unknown-request kind r h = rw (
+pub unknown_request : (kind : ℕ) (r : List ℕ) → 12 ≤ kind → request_of kind r ≡ Request.unknown
+unfolding request_of
+unknown_request kind r h = rw (
   ne_eqb kind 0 (differs 0 (omega arith)),
   ne_eqb kind 1 (differs 1 (omega arith)),
   ne_eqb kind 2 (differs 2 (omega arith)),
@@ -69,9 +69,9 @@ unknown-request kind r h = rw (
     differs : (k : ℕ) → k < 12 → kind ≡ k → ⊥
     differs k l e = omega arith
 
-pub known-goes-on : (w : World) (kind : ℕ) (r : List ℕ) → kind < 12 → (answer w (requestOf kind r)).stops ≡ false
-unfolding requestOf answer
-known-goes-on w kind r h =
+pub known_goes_on : (w : World) (kind : ℕ) (r : List ℕ) → kind < 12 → (answer w (request_of kind r)).stops ≡ false
+unfolding request_of answer
+known_goes_on w kind r h =
     by_equal kind 0 (λ e. rw e) (λ n0. let b1 : 0 < kind = omega arith in by_equal kind 1 (λ e. rw e)
     (λ n1. let b2 : 1 < kind = above 0 kind b1 n1 in by_equal kind 2 (λ e. rw e)
     (λ n2. let b3 : 2 < kind = above 1 kind b2 n2 in by_equal kind 3 (λ e. rw e)

@@ -10,77 +10,77 @@ use lib.ListN.{length, take, drop, replicate, length-replicate}
 use lib.Seq.{length-take-le, take_at}
 use borrow.Author.Tests.{eq-eqb, le-leb}
 use Rattle.common.specs.Tests.{first}
-use Rattle.common.proofs.TestLaws.{every-false}
+use Rattle.common.proofs.TestLaws.{every_false}
 use Rattle.device.specs.declared.Settings.{Settings}
-use Rattle.device.specs.SetUp.{accepted, total, setUpRefusal, freshHub}
+use Rattle.device.specs.SetUp.{accepted, total, set_up_refusal, fresh_hub}
 use Rattle.device.specs.History.{start}
 use Rattle.device.specs.declared.Reply.{Reply}
 use Rattle.hub.specs.Promises.{SetsUp}
-use Rattle.device.specs.Sizes.{maxPeers, maxVectors}
-use Rattle.device.specs.World.{World, zeroHub}
+use Rattle.device.specs.Sizes.{max_peers, max_vectors}
+use Rattle.device.specs.World.{World, zero_hub}
 use Rattle.playback.proofs.LentLaws.{lent_back}
 use Rattle.playback.specs.declared.Progress.{Progress}
-use Rattle.playback.specs.Answers.{answer, done, maxTotal, refusedBy, replied, setUpNumber}
+use Rattle.playback.specs.Answers.{answer, done, max_total, refused_by, replied, set_up_number}
 use Rattle.playback.specs.Log.{Request}
 use Rattle.playback.specs.Player.{after}
 use Rattle.playback.specs.Promises.{Goes, Lent, Writes}
-use Rattle.words.specs.Layout.{fits, hubOf, hubWords}
+use Rattle.words.specs.Layout.{fits, hub_of, hub_words}
 
-pub not-accepted : (s : Settings) → accepted s ≡ false → setUpNumber s ≡ 1
-unfolding setUpNumber setUpRefusal first
-not-accepted s e = rw e (go (leb (total s) maxTotal))
+pub not_accepted : (s : Settings) → accepted s ≡ false → set_up_number s ≡ 1
+unfolding set_up_number set_up_refusal first
+not_accepted s e = rw e (go (leb (total s) max_total))
   where
     go : (t : Bool) → ◌≡◌ {A = ℕ} (cond t 1 1) 1
     go true = refl
     go false = refl
 
-pub too_large : (s : Settings) → leb (total s) maxTotal ≡ false → setUpNumber s ≡ 1
-unfolding setUpNumber
+pub too_large : (s : Settings) → leb (total s) max_total ≡ false → set_up_number s ≡ 1
+unfolding set_up_number
 too_large s e = rw e
 
-no-refusal : (s : Settings) (region : List ℕ) → accepted s ≡ true → length region ≡ total s → setUpRefusal true s region ≡ 0
-unfolding setUpRefusal first
-no-refusal s region a n = rw (a, eq-eqb _ _ n)
+no_refusal : (s : Settings) (region : List ℕ) → accepted s ≡ true → length region ≡ total s → set_up_refusal true s region ≡ 0
+unfolding set_up_refusal first
+no_refusal s region a n = rw (a, eq-eqb _ _ n)
 
-pub taken : (s : Settings) → accepted s ≡ true → leb (total s) maxTotal ≡ true → setUpNumber s ≡ 0
-unfolding setUpNumber
-taken s a e = rw e (no-refusal s (replicate (total s) 0) a (length-replicate (total s) 0))
+pub taken : (s : Settings) → accepted s ≡ true → leb (total s) max_total ≡ true → set_up_number s ≡ 0
+unfolding set_up_number
+taken s a e = rw e (no_refusal s (replicate (total s) 0) a (length-replicate (total s) 0))
 
 -- the words of any hub fit the lent memory
-pub hub-room : (n m : ℕ) → n ≤ maxPeers → m ≤ maxVectors → hubWords n m ≤ hubWords maxPeers maxVectors
-unfolding hubWords
-hub-room n m h k = let p : n * m ≤ maxPeers * maxVectors = mul-le-mul h k in omega arith
+pub hub_room : (n m : ℕ) → n ≤ max_peers → m ≤ max_vectors → hub_words n m ≤ hub_words max_peers max_vectors
+unfolding hub_words
+hub_room n m h k = let p : n * m ≤ max_peers * max_vectors = mul-le-mul h k in omega arith
 
 -- no words are the all-zero hub
-pub empty-hub : hubOf [] ≡ zeroHub
-unfolding hubOf fits hubWords
-empty-hub = rw (every-false (leb 0 maxPeers ∷ leb 0 maxVectors ∷ eqb 0 10 ∷ []) 2 refl)
+pub empty_hub : hub_of [] ≡ zero_hub
+unfolding hub_of fits hub_words
+empty_hub = rw (every_false (leb 0 max_peers ∷ leb 0 max_vectors ∷ eqb 0 10 ∷ []) 2 refl)
 
 unfoldable pub without : Progress
 without = record { words = 0; bytes = 0; held = 0; stopped = false }
 
 module _ (hub region held out outAfter : List ℕ) (s : Settings) (w : World) (n : ℕ) where
   -- a refused set-up leaves no hub
-  pub refused-goes : Lent hub region held without → setUpNumber s ≡ 1 → Writes out outAfter (refusedBy 1) n
-      → Goes hub region held out outAfter without n (after (answer w (Request.setUp s)))
+  pub refused_goes : Lent hub region held without → set_up_number s ≡ 1 → Writes out outAfter (refused_by 1) n
+      → Goes hub region held out outAfter without n (after (answer w (Request.set_up s)))
   unfolding answer replied without
-  refused-goes lent e ws = record { player = rw (e, empty-hub); written = rw e ws; lent = lent }
+  refused_goes lent e ws = record { player = rw (e, empty_hub); written = rw e ws; lent = lent }
 
   -- an accepted one leaves a fresh hub in as many words, and a zero region in as many bytes, as it asks for
-  pub taken-goes : (words bytes : ℕ) (hubAfter regionAfter : List ℕ) (r : Reply) → (accepted s ≡ true) × (total s ≤ maxTotal)
-      → words ≡ hubWords s.peers s.vectors → bytes ≡ total s
+  pub taken_goes : (words bytes : ℕ) (hubAfter regionAfter : List ℕ) (r : Reply) → (accepted s ≡ true) × (total s ≤ max_total)
+      → words ≡ hub_words s.peers s.vectors → bytes ≡ total s
       → Lent hub region held (record { words = words; bytes = bytes; held = 0; stopped = false })
       → length hubAfter ≡ words → length regionAfter ≡ bytes
       → SetsUp (take words hub) hubAfter (take bytes region) regionAfter s r → Writes out outAfter (replied r.number (done [])) n
       → Goes (hubAfter ++ drop words hub) (regionAfter ++ drop bytes region) held out outAfter
-      (record { words = words; bytes = bytes; held = 0; stopped = false }) n (after (answer w (Request.setUp s)))
+      (record { words = words; bytes = bytes; held = 0; stopped = false }) n (after (answer w (Request.set_up s)))
   unfolding answer start
-  taken-goes words bytes hubAfter regionAfter r ok ew eb lent nh nr sv ws =
-      let room : length (take words hub) ≡ hubWords s.peers s.vectors = length-take-le words hub lent.words ∙ ew in
+  taken_goes words bytes hubAfter regionAfter r ok ew eb lent nh nr sv ws =
+      let room : length (take words hub) ≡ hub_words s.peers s.vectors = length-take-le words hub lent.words ∙ ew in
       let all : length (take bytes region) ≡ total s = length-take-le bytes region lent.bytes ∙ eb in
-      let number : r.number ≡ 0 = ap (λ (x : Reply). x.number) sv.reply ∙ rw (eq-eqb _ _ room) (no-refusal s (take bytes region) ok.0 all) in
-      let e : setUpNumber s ≡ 0 = taken s ok.0 (le-leb _ _ ok.1) in
-      let h : hubOf (take words (hubAfter ++ drop words hub)) ≡ freshHub s = rw (take_at hubAfter (drop words hub) words nh) (sv.hub ∙ rw number) in
+      let number : r.number ≡ 0 = ap (λ (x : Reply). x.number) sv.reply ∙ rw (eq-eqb _ _ room) (no_refusal s (take bytes region) ok.0 all) in
+      let e : set_up_number s ≡ 0 = taken s ok.0 (le-leb _ _ ok.1) in
+      let h : hub_of (take words (hubAfter ++ drop words hub)) ≡ fresh_hub s = rw (take_at hubAfter (drop words hub) words nh) (sv.hub ∙ rw number) in
       let g : take bytes (regionAfter ++ drop bytes region) ≡ replicate (total s) 0 =
       rw (take_at regionAfter (drop bytes region) bytes nr) (sv.region ∙ rw (number, all)) in
       record {

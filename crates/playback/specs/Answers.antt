@@ -4,10 +4,10 @@ use Rattle.common.specs.Bytes.{bytes, number}
 use Rattle.device.specs.declared.Delivery.{Delivery}
 use Rattle.device.specs.declared.Settings.{Settings}
 use Rattle.device.specs.History.{start}
-use Rattle.device.specs.SetUp.{total, setUpRefusal}
-use Rattle.device.specs.Sizes.{maxPeers}
+use Rattle.device.specs.SetUp.{total, set_up_refusal}
+use Rattle.device.specs.Sizes.{max_peers}
 use Rattle.device.specs.Step.{step}
-use Rattle.device.specs.World.{World, world, zeroHub}
+use Rattle.device.specs.World.{World, world, zero_hub}
 use Rattle.playback.specs.Log.{Request}
 
 -- R77: after 83h, 'target 2, vector 2, address 8, data 4'
@@ -17,41 +17,41 @@ parts d = (bytes 2 d.target.0 ++ bytes 2 d.vector.0) ++ (bytes 8 d.address ++ by
 unfoldable pub delivered : Delivery → List ℕ
 delivered d = 0x83 ∷ parts d
 
-unfoldable pub allDelivered : List Delivery → List ℕ
-allDelivered [] = []
-allDelivered (d ∷ ds) = delivered d ++ allDelivered ds
+unfoldable pub all_delivered : List Delivery → List ℕ
+all_delivered [] = []
+all_delivered (d ∷ ds) = delivered d ++ all_delivered ds
 
 -- R77: 80h and the number in one byte; 81h, then each delivery; 82h and a value of 4 bytes
-abbrev pub refusedBy : ℕ → List ℕ
-refusedBy number = 0x80 ∷ bytes 1 number
+abbrev pub refused_by : ℕ → List ℕ
+refused_by number = 0x80 ∷ bytes 1 number
 
 abbrev pub done : List Delivery → List ℕ
-done ds = 0x81 ∷ allDelivered ds
+done ds = 0x81 ∷ all_delivered ds
 
 abbrev pub valued : ℕ → List ℕ
 valued value = 0x82 ∷ bytes 4 value
 
 unfoldable pub replied : (number : ℕ) → (accepted : List ℕ) → List ℕ
-replied number accepted = cond (eqb number 0) accepted (refusedBy number)
+replied number accepted = cond (eqb number 0) accepted (refused_by number)
 
 -- no answer is longer: done, and a delivery to each peer
 abbrev pub longest : ℕ
-longest = 1 + 17 * maxPeers
+longest = 1 + 17 * max_peers
 
 -- R78: T above 32768 is refused with 1. The words and the region that it lends are as large as the set-up asks for.
-abbrev pub maxTotal : ℕ
-maxTotal = 32768
+abbrev pub max_total : ℕ
+max_total = 32768
 
-unfoldable pub setUpNumber : Settings → ℕ
-setUpNumber s = cond (leb (total s) maxTotal) (setUpRefusal true s (replicate (total s) 0)) 1
+unfoldable pub set_up_number : Settings → ℕ
+set_up_number s = cond (leb (total s) max_total) (set_up_refusal true s (replicate (total s) 0)) 1
 
 -- R79: what a record meets before any set-up, the all-zero hub with an empty region
 abbrev pub nowhere : World
-nowhere = world zeroHub []
+nowhere = world zero_hub []
 
 -- R79: a set-up begins anew, and after a refused one stands the all-zero hub
-abbrev pub setUpLeaves : ℕ → Settings → World
-setUpLeaves number s = cond (eqb number 0) (start s) nowhere
+abbrev pub set_up_leaves : ℕ → Settings → World
+set_up_leaves number s = cond (eqb number 0) (start s) nowhere
 
 pub record Answer : Type 0 where
   pub world : World
@@ -63,7 +63,7 @@ abbrev pub answered : World → List ℕ → Answer
 answered w written = record { world = w; written = written; stops = false }
 
 unfoldable pub answer : World → Request → Answer
-answer w (Request.setUp s) = answered (setUpLeaves (setUpNumber s) s) (replied (setUpNumber s) (done []))
+answer w (Request.set_up s) = answered (set_up_leaves (set_up_number s) s) (replied (set_up_number s) (done []))
 answer w (Request.does c) = answered (step w c).world (replied (step w c).number (done (step w c).deliveries))
 answer w (Request.reads c) = answered (step w c).world (replied (step w c).number (valued (step w c).value))
 answer w (Request.loads c) = answered (step w c).world (replied (step w c).number (valued (number (step w c).loaded)))

@@ -3,7 +3,7 @@ use Rattle.std.specs.Prelude.{ℕ, ◌+◌, Bool, cond, List, [], ◌∷◌, eqb
 use Rattle.common.specs.Bytes.{number}
 use Rattle.device.specs.declared.Settings.{Settings}
 use Rattle.device.specs.Call.{Act, Call, call}
-use Rattle.device.specs.Sizes.{maxPeers}
+use Rattle.device.specs.Sizes.{max_peers}
 
 -- The bodies' lengths, kind by kind, each the sum of its fields'.
 abbrev pub bodies : List ℕ
@@ -29,19 +29,19 @@ bodies =
     ∷ []
 
 -- the kind and its body; an unknown kind has no body
-unfoldable pub recordLength : ℕ → ℕ
-recordLength kind = 1 + get_or bodies kind 0
+unfoldable pub record_length : ℕ → ℕ
+record_length kind = 1 + get_or bodies kind 0
 
 -- a set-up's, the longest
-abbrev pub longestRecord : ℕ
-longestRecord = 39
+abbrev pub longest_record : ℕ
+longest_record = 39
 
 unfoldable pub kind_of : List ℕ → ℕ
 kind_of r = get_or r 0 0
 
 -- all bytes of the record have come
 unfoldable pub whole : List ℕ → Bool
-whole r = leb (recordLength (kind_of r)) (length r)
+whole r = leb (record_length (kind_of r)) (length r)
 
 -- the number of n bytes from a place of the record on; the kind stands at place 0
 unfoldable pub field : (at n : ℕ) → List ℕ → ℕ
@@ -50,12 +50,12 @@ field at n r = number (take n (drop at r))
 -- What a record asks for: a set-up, or a call. A call is answered by 'done' and the deliveries, by the value read, or by the byte
 -- loaded.
 pub data Request : Type 0 where
-  setUp : Settings → Request
+  set_up : Settings → Request
   does reads loads : Call → Request
   unknown : Request
 
-abbrev pub settingsIn : List ℕ → Settings
-settingsIn r =
+abbrev pub settings_in : List ℕ → Settings
+settings_in r =
     record {
       peers = field 1 2 r;
       vectors = field 3 2 r;
@@ -73,17 +73,17 @@ abbrev pub call_in : List ℕ → Act → Call
 call_in r act = call (field 1 2 r) act
 
 -- Register and MSI-X accesses are 4 bytes wide, and the delivery table has room for all peers that a hub can have.
-unfoldable pub requestOf : (kind : ℕ) → List ℕ → Request
-requestOf kind r =
-    cond (eqb kind 0x00) (Request.setUp (settingsIn r))
+unfoldable pub request_of : (kind : ℕ) → List ℕ → Request
+request_of kind r =
+    cond (eqb kind 0x00) (Request.set_up (settings_in r))
     (cond (eqb kind 0x01) (Request.does (call_in r Act.connect))
-    (cond (eqb kind 0x02) (Request.does (call_in r (Act.disconnect maxPeers)))
-    (cond (eqb kind 0x03) (Request.does (call_in r (Act.reset maxPeers)))
-    (cond (eqb kind 0x04) (Request.reads (call_in r (Act.configurationRead (field 3 2 r) (field 5 1 r))))
-    (cond (eqb kind 0x05) (Request.does (call_in r (Act.configurationWrite (field 3 2 r) (field 5 1 r) (field 6 4 r))))
-    (cond (eqb kind 0x06) (Request.reads (call_in r (Act.registerRead (field 3 2 r) 4)))
-    (cond (eqb kind 0x07) (Request.does (call_in r (Act.registerWrite maxPeers (field 3 2 r) 4 (field 5 4 r))))
-    (cond (eqb kind 0x08) (Request.reads (call_in r (Act.msixRead (field 3 2 r) 4)))
-    (cond (eqb kind 0x09) (Request.does (call_in r (Act.msixWrite (field 3 2 r) 4 (field 5 4 r))))
+    (cond (eqb kind 0x02) (Request.does (call_in r (Act.disconnect max_peers)))
+    (cond (eqb kind 0x03) (Request.does (call_in r (Act.reset max_peers)))
+    (cond (eqb kind 0x04) (Request.reads (call_in r (Act.configuration_read (field 3 2 r) (field 5 1 r))))
+    (cond (eqb kind 0x05) (Request.does (call_in r (Act.configuration_write (field 3 2 r) (field 5 1 r) (field 6 4 r))))
+    (cond (eqb kind 0x06) (Request.reads (call_in r (Act.register_read (field 3 2 r) 4)))
+    (cond (eqb kind 0x07) (Request.does (call_in r (Act.register_write max_peers (field 3 2 r) 4 (field 5 4 r))))
+    (cond (eqb kind 0x08) (Request.reads (call_in r (Act.msix_read (field 3 2 r) 4)))
+    (cond (eqb kind 0x09) (Request.does (call_in r (Act.msix_write (field 3 2 r) 4 (field 5 4 r))))
     (cond (eqb kind 0x0A) (Request.loads (call_in r (Act.load (field 3 4 r) 1)))
     (cond (eqb kind 0x0B) (Request.does (call_in r (Act.store (field 3 4 r) (field 7 1 r ∷ [])))) Request.unknown)))))))))))

@@ -2,11 +2,11 @@
 ghost use Rattle.std.specs.Prelude.{◌≡◌, ◌+◌, ◌*◌, ◌≤◌, length, [], ◌++◌};
 ghost use Rattle.common.specs.Bytes.{bytes};
 ghost use Rattle.common.specs.Lists.{over};
-ghost use Rattle.device.specs.Sizes.{maxPeers};
-ghost use Rattle.words.specs.Layout.{hubOf};
+ghost use Rattle.device.specs.Sizes.{max_peers};
+ghost use Rattle.words.specs.Layout.{hub_of};
 ghost use Rattle.deliveries.specs.Listed.{listed};
 ghost use Rattle.playback.specs.Answers;
-ghost use Rattle.playback.specs.Answers.{longest, refusedBy, replied, valued, parts, delivered, allDelivered};
+ghost use Rattle.playback.specs.Answers.{longest, refused_by, replied, valued, parts, delivered, all_delivered};
 ghost use Rattle.playback.specs.Promises.{Writes};
 
 use super::numbers;
@@ -15,7 +15,7 @@ use device::Delivery;
 
 pub fn refused(out: &mut [u8], number: u32) -> usize
     requires { 2 ≤ length out.old }
-    ensures { Writes out.old out.new (refusedBy number) result }
+    ensures { Writes out.old out.new (refused_by number) result }
 {
     out[0] = 0x80;
     out[1] = (number % 256) as u8;
@@ -79,8 +79,8 @@ fn put_delivery(out: &mut [u8], d: Delivery)
 }
 
 fn put_deliveries(hub: &[u32], list: Deliveries, out: &mut [u8])
-    requires { (list.count ≤ length list.targets) × (list.count ≤ maxPeers) × (17 * list.count ≤ length out.old) }
-    ensures { out.new ≡ over (allDelivered (listed (hubOf hub.now) list)) out.old }
+    requires { (list.count ≤ length list.targets) × (list.count ≤ max_peers) × (17 * list.count ≤ length out.old) }
+    ensures { out.new ≡ over (all_delivered (listed (hub_of hub.now) list)) out.old }
 {
     let n = list.count;
     let v = list.vector;
@@ -96,8 +96,8 @@ fn put_deliveries(hub: &[u32], list: Deliveries, out: &mut [u8])
 
 // Done, and each delivery.
 pub fn served(hub: &[u32], number: u32, list: Deliveries, out: &mut [u8]) -> usize
-    requires { (list.count ≤ length list.targets) × (list.count ≤ maxPeers) × (longest ≤ length out.old) }
-    ensures { Writes out.old out.new (replied number (Answers.done (listed (hubOf hub.now) list))) result }
+    requires { (list.count ≤ length list.targets) × (list.count ≤ max_peers) × (longest ≤ length out.old) }
+    ensures { Writes out.old out.new (replied number (Answers.done (listed (hub_of hub.now) list))) result }
 {
     if number != 0 {
         return refused(out, number);

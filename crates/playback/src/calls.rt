@@ -1,7 +1,7 @@
 // The calls that records ask for: one function for each kind, over the record's fields.
 ghost use Rattle.std.specs.Prelude.{◌≡◌, ℕ, ◌≤◌, List, [], ◌∷◌, length};
 ghost use Rattle.device.specs.Call.{Act};
-ghost use Rattle.device.specs.Sizes.{maxPeers};
+ghost use Rattle.device.specs.Sizes.{max_peers};
 ghost use Rattle.playback.specs.Answers.{longest};
 ghost use Rattle.playback.specs.Log.{Request, field, call_in};
 ghost use Rattle.playback.specs.Promises.{Answers};
@@ -50,7 +50,7 @@ pub fn connect(hub: &mut [u32], fields: &[u8], out: &mut [u8]) -> usize
 pub fn disconnect(hub: &mut [u32], region: &mut [u8], fields: &[u8], out: &mut [u8]) -> usize
     requires { (3 ≤ length fields.now) × (longest ≤ length out.old) }
     ensures { Answers hub.old hub.new region.old region.new out.old
-        out.new (Request.does (call_in fields.now (Act.disconnect maxPeers))) result }
+        out.new (Request.does (call_in fields.now (Act.disconnect max_peers))) result }
 {
     let s = hub::disconnect(hub, region, device::max_peers() as u64, id(fields));
     let reply = s.reply;
@@ -61,7 +61,7 @@ pub fn disconnect(hub: &mut [u32], region: &mut [u8], fields: &[u8], out: &mut [
 pub fn reset(hub: &mut [u32], region: &mut [u8], fields: &[u8], out: &mut [u8]) -> usize
     requires { (3 ≤ length fields.now) × (longest ≤ length out.old) }
     ensures { Answers hub.old hub.new region.old region.new out.old
-        out.new (Request.does (call_in fields.now (Act.reset maxPeers))) result }
+        out.new (Request.does (call_in fields.now (Act.reset max_peers))) result }
 {
     let s = hub::reset(hub, region, device::max_peers() as u64, id(fields));
     let reply = s.reply;
@@ -72,7 +72,7 @@ pub fn reset(hub: &mut [u32], region: &mut [u8], fields: &[u8], out: &mut [u8]) 
 pub fn configuration_read(hub: &[u32], fields: &[u8], out: &mut [u8]) -> usize
     requires { (6 ≤ length fields.now) × (longest ≤ length out.old) }
     ensures { (region : List ℕ) → Answers hub.now hub.now region region out.old
-        out.new (Request.reads (call_in fields.now (Act.configurationRead (field 3 2 fields.now)
+        out.new (Request.reads (call_in fields.now (Act.configuration_read (field 3 2 fields.now)
         (field 5 1 fields.now)))) result }
 {
     let r = hub::configuration_read(hub, id(fields), offset(fields), width(fields));
@@ -82,7 +82,7 @@ pub fn configuration_read(hub: &[u32], fields: &[u8], out: &mut [u8]) -> usize
 pub fn configuration_write(hub: &mut [u32], fields: &[u8], out: &mut [u8]) -> usize
     requires { (10 ≤ length fields.now) × (longest ≤ length out.old) }
     ensures { (region : List ℕ) → Answers hub.old hub.new region region out.old
-        out.new (Request.does (call_in fields.now (Act.configurationWrite (field 3 2 fields.now)
+        out.new (Request.does (call_in fields.now (Act.configuration_write (field 3 2 fields.now)
         (field 5 1 fields.now) (field 6 4 fields.now)))) result }
 {
     let x = numbers::four(fields, 6);
@@ -93,7 +93,7 @@ pub fn configuration_write(hub: &mut [u32], fields: &[u8], out: &mut [u8]) -> us
 pub fn register_read(hub: &[u32], fields: &[u8], out: &mut [u8]) -> usize
     requires { (5 ≤ length fields.now) × (longest ≤ length out.old) }
     ensures { (region : List ℕ) → Answers hub.now hub.now region region out.old
-        out.new (Request.reads (call_in fields.now (Act.registerRead (field 3 2 fields.now) 4))) result }
+        out.new (Request.reads (call_in fields.now (Act.register_read (field 3 2 fields.now) 4))) result }
 {
     let r = hub::register_read(hub, id(fields), offset(fields), 4);
     answers::value(out, r.number, r.value)
@@ -103,7 +103,7 @@ pub fn register_write(hub: &mut [u32], region: &mut [u8], fields: &[u8], out: &m
     requires { (9 ≤ length fields.now) × (longest ≤ length out.old) }
     ensures { Answers hub.old hub.new region.old region.new out.old
         out.new (Request.does (call_in fields.now
-        (Act.registerWrite maxPeers (field 3 2 fields.now) 4 (field 5 4 fields.now)))) result }
+        (Act.register_write max_peers (field 3 2 fields.now) 4 (field 5 4 fields.now)))) result }
 {
     let x = numbers::four(fields, 5);
     let n = device::max_peers() as u64;
@@ -116,7 +116,7 @@ pub fn register_write(hub: &mut [u32], region: &mut [u8], fields: &[u8], out: &m
 pub fn msix_read(hub: &[u32], fields: &[u8], out: &mut [u8]) -> usize
     requires { (5 ≤ length fields.now) × (longest ≤ length out.old) }
     ensures { (region : List ℕ) → Answers hub.now hub.now region region out.old
-        out.new (Request.reads (call_in fields.now (Act.msixRead (field 3 2 fields.now) 4))) result }
+        out.new (Request.reads (call_in fields.now (Act.msix_read (field 3 2 fields.now) 4))) result }
 {
     let r = hub::msix_read(hub, id(fields), offset(fields), 4);
     answers::value(out, r.number, r.value)
@@ -125,7 +125,7 @@ pub fn msix_read(hub: &[u32], fields: &[u8], out: &mut [u8]) -> usize
 pub fn msix_write(hub: &mut [u32], fields: &[u8], out: &mut [u8]) -> usize
     requires { (9 ≤ length fields.now) × (longest ≤ length out.old) }
     ensures { (region : List ℕ) → Answers hub.old hub.new region region out.old
-        out.new (Request.does (call_in fields.now (Act.msixWrite (field 3 2 fields.now) 4
+        out.new (Request.does (call_in fields.now (Act.msix_write (field 3 2 fields.now) 4
         (field 5 4 fields.now)))) result }
 {
     let x = numbers::four(fields, 5);

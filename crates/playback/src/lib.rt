@@ -8,7 +8,7 @@ mod records;
 ghost use Rattle.std.specs.Prelude.{◌≡◌, ℕ, ◌≤◌, List, length};
 ghost use Rattle.playback.specs.Answers.{longest};
 ghost use Rattle.playback.specs.Player.{fed, fresh};
-ghost use Rattle.playback.specs.Promises.{Lent, Goes, Feeds, Refuses, Ends, playerIn, isLent, refusalOf};
+ghost use Rattle.playback.specs.Promises.{Lent, Goes, Feeds, Refuses, Ends, player_in, is_lent, refusal_of};
 
 // Where a player stands, beside what its lent memory holds.
 #[derive(Drop)]
@@ -46,7 +46,7 @@ pub const REGION_BYTES: usize = 32768;
 
 // Nothing held, no hub: whatever the lent memory holds.
 pub fn start() -> Progress
-    ensures { (hub region held : List ℕ) → playerIn hub region held result ≡ fresh }
+    ensures { (hub region held : List ℕ) → player_in hub region held result ≡ fresh }
 {
     Progress {
         words: 0,
@@ -65,7 +65,7 @@ pub fn longest_answer() -> usize
 
 // The lent memory has the lengths that any log needs, and the progress lies within it.
 fn lent(hub: &[u32], region: &[u8], held: &[u8], p: Progress) -> bool
-    ensures { result ≡ isLent hub.now region.now held.now p }
+    ensures { result ≡ is_lent hub.now region.now held.now p }
 {
     (hub.len() == words::hub_words(device::max_peers(), device::max_vectors()))
         & (region.len() == REGION_BYTES)
@@ -77,7 +77,7 @@ fn lent(hub: &[u32], region: &[u8], held: &[u8], p: Progress) -> bool
 
 // 10 for other memory, then 11 for a buffer without room for the longest answer.
 fn refusal(hub: &[u32], region: &[u8], held: &[u8], p: Progress, room: usize) -> u32
-    ensures is { result ≡ refusalOf hub.now region.now held.now p room }
+    ensures is { result ≡ refusal_of hub.now region.now held.now p room }
     ensures facts { result ≡ 0 → Lent hub.now region.now held.now p × (longest ≤ room) }
 {
     let ok = lent(hub, region, held, p);
@@ -102,7 +102,7 @@ fn take_byte(
     requires lent { Lent hub.old region.old held.old p }
     requires room { longest ≤ length out.old }
     ensures { Goes hub.new region.new held.new out.old out.new
-        result.progress result.written (fed (playerIn hub.old region.old held.old p) byte) }
+        result.progress result.written (fed (player_in hub.old region.old held.old p) byte) }
 {
     if p.stopped {
         return Taken {
@@ -150,7 +150,7 @@ fn feed_lent(
 ) -> Report
     requires lent { Lent hub.old region.old held.old progress }
     requires room { longest ≤ length out.old }
-    ensures { Feeds (playerIn hub.old region.old held.old progress) hub.new
+    ensures { Feeds (player_in hub.old region.old held.old progress) hub.new
         region.new held.new piece.now out.old out.new result }
 {
     let last = out.len() - longest_answer();
@@ -181,10 +181,10 @@ pub fn feed(
     piece: &[u8],
     out: &mut [u8],
 ) -> Report
-    ensures number { result.number ≡ refusalOf hub.old region.old held.old progress (length out.old) }
+    ensures number { result.number ≡ refusal_of hub.old region.old held.old progress (length out.old) }
     ensures refused { (result.number ≡ 0 → ⊥) → Refuses hub.old hub.new region.old
         region.new held.old held.new out.old out.new progress result }
-    ensures fed { result.number ≡ 0 → Feeds (playerIn hub.old region.old held.old progress)
+    ensures fed { result.number ≡ 0 → Feeds (player_in hub.old region.old held.old progress)
         hub.new region.new held.new piece.now out.old out.new result }
 {
     let number = refusal(hub, region, held, progress, out.len());

@@ -1,14 +1,14 @@
 // Records: how long each kind is, and what a whole one is answered by.
 ghost use Rattle.std.specs.Prelude.{◌≡◌, ℕ, ◌<◌, ◌≤◌, Bool, true, false, List, eqb, length};
 ghost use Rattle.device.specs.SetUp.{accepted, total};
-ghost use Rattle.device.specs.Sizes.{maxPeers, maxVectors};
+ghost use Rattle.device.specs.Sizes.{max_peers, max_vectors};
 ghost use Rattle.device.specs.World.{World};
-ghost use Rattle.words.specs.Layout.{hubWords};
-ghost use Rattle.playback.specs.Answers.{longest, maxTotal, setUpNumber};
+ghost use Rattle.words.specs.Layout.{hub_words};
+ghost use Rattle.playback.specs.Answers.{longest, max_total, set_up_number};
 ghost use Rattle.playback.specs.Answers.{answer};
-ghost use Rattle.playback.specs.Log.{Request, kind_of, recordLength, requestOf, settingsIn, longestRecord};
+ghost use Rattle.playback.specs.Log.{Request, kind_of, record_length, request_of, settings_in, longest_record};
 ghost use Rattle.playback.specs.Player.{after};
-ghost use Rattle.playback.specs.Promises.{Goes, worldIn};
+ghost use Rattle.playback.specs.Promises.{Goes, world_in};
 ghost use Rattle.playback.specs.Promises;
 
 use super::{Progress, Taken, answers, calls, numbers};
@@ -19,15 +19,15 @@ const BODIES: [u8; 12] = [38, 2, 2, 2, 5, 9, 4, 8, 4, 8, 6, 7];
 
 // A record's length: the kind and its body. An unknown kind has no body.
 pub fn length(kind: u8) -> usize
-    ensures { result ≡ recordLength kind }
+    ensures { result ≡ record_length kind }
 {
     let k = kind as usize;
     if k < 12 { 1 + BODIES[k] as usize } else { 1 }
 }
 
 fn settings(fields: &[u8]) -> Settings
-    requires { longestRecord ≤ length fields.now }
-    ensures { result ≡ settingsIn fields.now }
+    requires { longest_record ≤ length fields.now }
+    ensures { result ≡ settings_in fields.now }
 {
     Settings {
         peers: numbers::two(fields, 1) as u64,
@@ -44,9 +44,9 @@ fn settings(fields: &[u8]) -> Settings
 
 // The numbers are accepted, and the player's region is large enough.
 fn playable(s: Settings) -> bool
-    ensures is { result ≡ eqb (setUpNumber s) 0 }
-    ensures facts { result ≡ true → (accepted s ≡ true) × (total s ≤ maxTotal) }
-    ensures number { result ≡ false → setUpNumber s ≡ 1 }
+    ensures is { result ≡ eqb (set_up_number s) 0 }
+    ensures facts { result ≡ true → (accepted s ≡ true) × (total s ≤ max_total) }
+    ensures number { result ≡ false → set_up_number s ≡ 1 }
 {
     let ok = soundness::accepted(s);
     if !ok {
@@ -67,11 +67,11 @@ fn progress(words: usize, bytes: usize, stopped: bool) -> Progress
 }
 
 fn set_up(hub: &mut [u32], region: &mut [u8], fields: &[u8], out: &mut [u8]) -> Taken
-    requires lent { (length hub.old ≡ hubWords maxPeers maxVectors) × (length region.old ≡ maxTotal) }
-    requires room { (longestRecord ≤ length fields.now) × (longest ≤ length out.old) }
-    ensures { (held : List ℕ) → length held ≡ longestRecord → (w : World) → Goes hub.new
+    requires lent { (length hub.old ≡ hub_words max_peers max_vectors) × (length region.old ≡ max_total) }
+    requires room { (longest_record ≤ length fields.now) × (longest ≤ length out.old) }
+    ensures { (held : List ℕ) → length held ≡ longest_record → (w : World) → Goes hub.new
         region.new held out.old out.new result.progress result.written
-        (after (answer w (Request.setUp (settingsIn fields.now)))) }
+        (after (answer w (Request.set_up (settings_in fields.now)))) }
 {
     let s = settings(fields);
     let ok = playable(s);
@@ -103,9 +103,9 @@ fn set_up(hub: &mut [u32], region: &mut [u8], fields: &[u8], out: &mut [u8]) -> 
 // A call, by its kind. The hub and the region are the parts of the lent memory that are in use.
 fn call(hub: &mut [u32], region: &mut [u8], fields: &[u8], out: &mut [u8]) -> usize
     requires known { (0 < kind_of fields.now) × (kind_of fields.now < 12) }
-    requires room { (recordLength (kind_of fields.now) ≤ length fields.now) × (longest ≤ length out.old) }
+    requires room { (record_length (kind_of fields.now) ≤ length fields.now) × (longest ≤ length out.old) }
     ensures { Promises.Answers hub.old hub.new region.old region.new
-        out.old out.new (requestOf (kind_of fields.now) fields.now) result }
+        out.old out.new (request_of (kind_of fields.now) fields.now) result }
 {
     let kind = fields[0];
     match kind {
@@ -132,12 +132,12 @@ pub fn answer(
     bytes: usize,
     out: &mut [u8],
 ) -> Taken
-    requires lent { (length hub.old ≡ hubWords maxPeers maxVectors) × (length region.old ≡ maxTotal) }
+    requires lent { (length hub.old ≡ hub_words max_peers max_vectors) × (length region.old ≡ max_total) }
     requires used { (words ≤ length hub.old) × (bytes ≤ length region.old) }
-    requires room { (recordLength (kind_of fields.now) ≤ length fields.now) × (longest ≤ length out.old) }
-    ensures { (held : List ℕ) → length held ≡ longestRecord → Goes hub.new region.new held
+    requires room { (record_length (kind_of fields.now) ≤ length fields.now) × (longest ≤ length out.old) }
+    ensures { (held : List ℕ) → length held ≡ longest_record → Goes hub.new region.new held
         out.old out.new result.progress result.written
-        (after (answer (worldIn hub.old region.old words bytes) (requestOf (kind_of fields.now)
+        (after (answer (world_in hub.old region.old words bytes) (request_of (kind_of fields.now)
         fields.now))) }
 {
     let kind = fields[0];

@@ -9,11 +9,11 @@ use Rattle.common.specs.Lists.{tabulate}
 use Rattle.common.specs.Tests.{first, every, below}
 use Rattle.reader.specs.declared.Message.{Message}
 use Rattle.reader.specs.declared.Message.TheVariants.{More, Version, Id, Memory, Vector, Extra, Disconnected, Closed}
-use Rattle.reader.specs.Reading.{State, state, start, emptied, Read, gives, good, refusal, refusedBy, accepted, read}
-use Rattle.reader.specs.Records.{signed, recordIn}
-use Rattle.reader.specs.Sizes.{ids, mostVectors}
-use Rattle.reader.specs.Steps.{Known, known, isVersion, isId, id_of, isMemory, readRecord}
-use Rattle.reader.specs.Steps.{versionStep, idStep, memoryStep, adds, removes, peersStep}
+use Rattle.reader.specs.Reading.{State, state, start, emptied, Read, gives, good, refusal, refused_by, accepted, read}
+use Rattle.reader.specs.Records.{signed, record_in}
+use Rattle.reader.specs.Sizes.{ids, most_vectors}
+use Rattle.reader.specs.Steps.{Known, known, is_version, is_id, id_of, is_memory, read_record}
+use Rattle.reader.specs.Steps.{version_step, id_step, memory_step, adds, removes, peers_step}
 
 -- a record without a descriptor and one with, of 64 bits; those of a negative number
 abbrev bare : ℕ → List ℕ
@@ -82,20 +82,20 @@ none = replicate ids 0
 abbrev some : List ℕ
 some = set (set none 7 2) 5 1
 
-abbrev versionAt : Known
-versionAt = known 0 0 none
+abbrev version_at : Known
+version_at = known 0 0 none
 
 abbrev id_at : Known
 id_at = known 1 0 none
 
-abbrev memoryAt : Known
-memoryAt = known 2 5 none
+abbrev memory_at : Known
+memory_at = known 2 5 none
 
-abbrev peersAt : Known
-peersAt = known 3 5 some
+abbrev peers_at : Known
+peers_at = known 3 5 some
 
-abbrev closedAt : Known
-closedAt = known 4 5 some
+abbrev closed_at : Known
+closed_at = known 4 5 some
 
 -- a record that is answered by this message and leaves this
 abbrev told : Known → List ℕ → Message → Known → Call
@@ -119,63 +119,63 @@ strange f k =
 abbrev kinds : Known → ℕ → List Call
 kinds k n = closing k (2 ∷ bytes 8 n) ∷ closing k (128 ∷ bytes 8 n) ∷ closing k (255 ∷ bytes 8 n) ∷ []
 
-abbrev wrongVersion : List Call
-wrongVersion =
-    closing versionAt (bare 1)
-    ∷ closing versionAt (with 0)
-    ∷ closing versionAt (with (minus 1))
-    ∷ closing versionAt (bare (minus 1))
-    ∷ (kinds versionAt 0 ++ (strange bare versionAt ++ strange with versionAt))
+abbrev wrong_version : List Call
+wrong_version =
+    closing version_at (bare 1)
+    ∷ closing version_at (with 0)
+    ∷ closing version_at (with (minus 1))
+    ∷ closing version_at (bare (minus 1))
+    ∷ (kinds version_at 0 ++ (strange bare version_at ++ strange with version_at))
 
-abbrev wrongId : List Call
-wrongId =
+abbrev wrong_id : List Call
+wrong_id =
     closing id_at (with 5)
     ∷ closing id_at (with (minus 1))
     ∷ closing id_at (bare (minus 1))
     ∷ (kinds id_at 5 ++ (strange bare id_at ++ strange with id_at))
 
 -- -1 has 64 bits
-abbrev wrongMemory : List Call
-wrongMemory =
-    closing memoryAt (bare (minus 1))
-    ∷ closing memoryAt (bare 5)
-    ∷ closing memoryAt (with 5)
-    ∷ closing memoryAt (with 0)
-    ∷ closing memoryAt (with (2 ^ 32 - 1))
-    ∷ (tabulate 8 (λ j. closing memoryAt (with (minus 1 - 2 ^ (8 * j)))) ++ (kinds memoryAt (minus 1) ++ (strange with memoryAt ++ strange bare memoryAt)))
+abbrev wrong_memory : List Call
+wrong_memory =
+    closing memory_at (bare (minus 1))
+    ∷ closing memory_at (bare 5)
+    ∷ closing memory_at (with 5)
+    ∷ closing memory_at (with 0)
+    ∷ closing memory_at (with (2 ^ 32 - 1))
+    ∷ (tabulate 8 (λ j. closing memory_at (with (minus 1 - 2 ^ (8 * j)))) ++ (kinds memory_at (minus 1) ++ (strange with memory_at ++ strange bare memory_at)))
 
 -- we ourselves do not leave, and neither does a peer without vectors
-abbrev wrongPeer : List Call
-wrongPeer =
-    closing peersAt (bare 5)
-    ∷ closing peersAt (bare 9)
-    ∷ closing peersAt (with (minus 1))
-    ∷ closing peersAt (bare (minus 1))
+abbrev wrong_peer : List Call
+wrong_peer =
+    closing peers_at (bare 5)
+    ∷ closing peers_at (bare 9)
+    ∷ closing peers_at (with (minus 1))
+    ∷ closing peers_at (bare (minus 1))
     ∷ closing (known 3 0 (set some 0 1)) (bare 0)
-    ∷ (kinds peersAt 7 ++ (strange bare peersAt ++ strange with peersAt))
+    ∷ (kinds peers_at 7 ++ (strange bare peers_at ++ strange with peers_at))
 
-abbrev afterClose : List Call
-afterClose =
-    closing closedAt (bare 0)
-    ∷ closing closedAt (with (minus 1))
-    ∷ closing closedAt (with 7)
-    ∷ closing closedAt (bare 7)
-    ∷ call 2 (emptied closedAt) (take 8 (with 7)) (gives More 8 (state (record { due = 4; own = 5; held = 8; bytes = take 8 (with 7) }) some))
-    ∷ kinds closedAt 7
+abbrev after_close : List Call
+after_close =
+    closing closed_at (bare 0)
+    ∷ closing closed_at (with (minus 1))
+    ∷ closing closed_at (with 7)
+    ∷ closing closed_at (bare 7)
+    ∷ call 2 (emptied closed_at) (take 8 (with 7)) (gives More 8 (state (record { due = 4; own = 5; held = 8; bytes = take 8 (with 7) }) some))
+    ∷ kinds closed_at 7
 
 abbrev right : List Call
 right =
-    told versionAt (bare 0) Version id_at
-    ∷ told id_at (bare 5) (Id 5) memoryAt
+    told version_at (bare 0) Version id_at
+    ∷ told id_at (bare 5) (Id 5) memory_at
     ∷ told id_at (bare 0) (Id 0) (known 2 0 none)
     ∷ told id_at (bare 63) (Id 63) (known 2 63 none)
-    ∷ told memoryAt (with (minus 1)) Memory (known 3 5 none)
-    ∷ told peersAt (with 5) (Vector 5 2) (known 3 5 (set some 5 2))
-    ∷ told peersAt (with 63) (Vector 63 1) (known 3 5 (set some 63 1))
-    ∷ told peersAt (with 7) (Extra 7 2) peersAt
-    ∷ told peersAt (bare 7) (Disconnected 7) (known 3 5 (set some 7 0))
+    ∷ told memory_at (with (minus 1)) Memory (known 3 5 none)
+    ∷ told peers_at (with 5) (Vector 5 2) (known 3 5 (set some 5 2))
+    ∷ told peers_at (with 63) (Vector 63 1) (known 3 5 (set some 63 1))
+    ∷ told peers_at (with 7) (Extra 7 2) peers_at
+    ∷ told peers_at (bare 7) (Disconnected 7) (known 3 5 (set some 7 0))
     -- of two records the first is taken
-    ∷ call 2 (emptied versionAt) (bare 0 ++ bare 5) (gives Version 9 (emptied id_at))
+    ∷ call 2 (emptied version_at) (bare 0 ++ bare 5) (gives Version 9 (emptied id_at))
     ∷ []
 
 -- a record cut after its first k bytes: those are held, and the rest, with more behind it, is read to the record's end
@@ -183,7 +183,7 @@ abbrev holds : ℕ → List ℕ → State
 holds k r = state (record { due = 3; own = 5; held = k; bytes = take k r ++ replicate (8 - k) 0 }) some
 
 abbrev begun : ℕ → Call
-begun k = call 2 (emptied peersAt) (take k (with 5)) (gives More k (holds k (with 5)))
+begun k = call 2 (emptied peers_at) (take k (with 5)) (gives More k (holds k (with 5)))
 
 abbrev ended : ℕ → Call
 ended k =
@@ -197,7 +197,7 @@ behind =
 
 -- what is refused, and by which number; nothing is taken and nothing changes
 abbrev refused : ℕ → ℕ → State → Call
-refused number vectors s = call vectors s (bare 0) (refusedBy number s)
+refused number vectors s = call vectors s (bare 0) (refused_by number s)
 
 abbrev held : ℕ → ℕ → ℕ → List ℕ → State
 held due own n counts = state (record { due = due; own = own; held = n; bytes = 255 ∷ 2 ∷ 3 ∷ 4 ∷ 5 ∷ 6 ∷ 7 ∷ 8 ∷ [] }) counts
@@ -246,11 +246,11 @@ limits =
 pub calls : List Call
 calls =
     right
-    ++ (wrongVersion ++ (wrongId ++ (wrongMemory ++ (wrongPeer ++ (afterClose ++ (tabulate 9 begun ++ (tabulate 9 ended ++ (behind ∷ (refusals ++ limits)))))))))
+    ++ (wrong_version ++ (wrong_id ++ (wrong_memory ++ (wrong_peer ++ (after_close ++ (tabulate 9 begun ++ (tabulate 9 ended ++ (behind ∷ (refusals ++ limits)))))))))
 
 pub the-cases :
     (map (λ c. heard c.vectors start c.records) streams ≡ map (λ c. c.says) streams)
     × (map (λ c. read c.vectors c.before c.input) calls ≡ map (λ c. c.after) calls)
-unfolding streams calls heard read accepted refusal good first every below tabulate ids mostVectors recordIn signed number bytes
-    readRecord isVersion isId id_of isMemory versionStep idStep memoryStep adds removes peersStep
+unfolding streams calls heard read accepted refusal good first every below tabulate ids most_vectors record_in signed number bytes
+    read_record is_version is_id id_of is_memory version_step id_step memory_step adds removes peers_step
 the-cases = (refl, refl)

@@ -8,13 +8,13 @@ use lib.Dec.{eqb, leb, ltb}
 use lib.ListN.{length, get_or}
 use borrow.Author.Tests.{leb-true, ltb-true, ltb-false, eqb-true, le-leb, lt-ltb, le-ltb, eq-eqb, not-false}
 use Rattle.common.specs.Tests.{first, every, below}
-use Rattle.common.proofs.TestLaws.{and_left, and_right, alike, every_true, first-zero, below_true, true_below, below-ext}
+use Rattle.common.proofs.TestLaws.{and_left, and_right, alike, every_true, first_zero, below_true, true_below, below_ext}
 use Rattle.reader.specs.Reading.{State, good, refusal}
-use Rattle.reader.specs.Sizes.{ids, mostVectors}
+use Rattle.reader.specs.Sizes.{ids, most_vectors}
 
 pub record Good (vectors : ℕ) (s : State) : Type 0 where
   pub some : 1 ≤ vectors
-  pub most : vectors ≤ mostVectors
+  pub most : vectors ≤ most_vectors
   pub size : length s.counts ≡ ids
   pub due : s.progress.due ≤ 4
   pub own : s.progress.own < ids
@@ -33,13 +33,13 @@ either true b h = refl
 either false b h = h refl
 
 module _ (vectors : ℕ) (s : State) where
-  pub good-facts : refusal vectors s ≡ 0 → Good vectors s
+  pub good_facts : refusal vectors s ≡ 0 → Good vectors s
   unfolding refusal good
-  good-facts e =
-      let one = first-zero 0 _ _ e in
-      let two = first-zero 1 _ _ one.1 in
-      let ten = first-zero 9 _ _ two.1 in
-      let range : leb 1 vectors && leb vectors mostVectors ≡ true = not-false _ one.0 in
+  good_facts e =
+      let one = first_zero 0 _ _ e in
+      let two = first_zero 1 _ _ one.1 in
+      let ten = first_zero 9 _ _ two.1 in
+      let range : leb 1 vectors && leb vectors most_vectors ≡ true = not-false _ one.0 in
       let long : eqb (length s.counts) ids ≡ true = not-false _ two.0 in
       let all : good vectors s ≡ true = not-false _ ten.0 in
       let tests = every_true _ all in
@@ -47,8 +47,8 @@ module _ (vectors : ℕ) (s : State) where
       let early : (ltb 1 s.progress.due || eqb s.progress.own 0) ≡ true = tests 4 in
       let empty : (ltb 2 s.progress.due || below ids (λ i. eqb (get_or s.counts i 0) 0)) ≡ true = tests 5 in
       record {
-        some = leb-true 1 vectors (and_left (leb 1 vectors) (leb vectors mostVectors) range);
-        most = leb-true vectors mostVectors (and_right (leb 1 vectors) (leb vectors mostVectors) range);
+        some = leb-true 1 vectors (and_left (leb 1 vectors) (leb vectors most_vectors) range);
+        most = leb-true vectors most_vectors (and_right (leb 1 vectors) (leb vectors most_vectors) range);
         size = eqb-true _ _ long;
         due = leb-true _ 4 (tests 0);
         own = ltb-true _ ids (tests 1);
@@ -58,9 +58,9 @@ module _ (vectors : ℕ) (s : State) where
         none = λ h i l. eqb-true _ 0 (below_true ids _ (other _ _ empty (le-ltb 2 _ h)) i l);
       }
 
-  pub facts-good : Good vectors s → refusal vectors s ≡ 0
+  pub facts_good : Good vectors s → refusal vectors s ≡ 0
   unfolding refusal good first every
-  facts-good g =
+  facts_good g =
       let within : below ids (λ i. leb (get_or s.counts i 0) vectors) ≡ true =
       true_below ids _ (λ i h. le-leb _ _ (g.counts i h)) in
       let early : (ltb 1 s.progress.due || eqb s.progress.own 0) ≡ true =
@@ -80,21 +80,21 @@ module _ (vectors : ℕ) (s : State) where
       )
 
 -- a bound on the larger of two numbers is one on both
-pub bound-first : (a b most : ℕ) → b ≤ a → leb a most ≡ (leb a most && leb b most)
-bound-first a b most h =
+pub bound_first : (a b most : ℕ) → b ≤ a → leb a most ≡ (leb a most && leb b most)
+bound_first a b most h =
     alike (leb a most) (leb a most && leb b most)
     (λ e. let l = leb-true a most e in rw (e, le-leb b most (omega arith))) (λ e. and_left (leb a most) (leb b most) e)
 
-pub bound-second : (a b most : ℕ) → a ≤ b → leb b most ≡ (leb a most && leb b most)
-bound-second a b most h =
+pub bound_second : (a b most : ℕ) → a ≤ b → leb b most ≡ (leb a most && leb b most)
+bound_second a b most h =
     alike (leb b most) (leb a most && leb b most)
     (λ e. let l = leb-true b most e in rw (le-leb a most (omega arith), e)) (λ e. and_right (leb a most) (leb b most) e)
 
 -- a number that is no more than 0 is 0
-pub bound-zero : (n : ℕ) → leb n 0 ≡ eqb n 0
-bound-zero n =
+pub bound_zero : (n : ℕ) → leb n 0 ≡ eqb n 0
+bound_zero n =
     alike (leb n 0) (eqb n 0) (λ e. let l = leb-true n 0 e in eq-eqb n 0 (omega arith)) (λ e. let q = eqb-true n 0 e in le-leb n 0 (omega arith))
 
 -- no count is above 0 exactly where every count is 0
 pub none_within : (l : List ℕ) (n : ℕ) → below n (λ i. leb (get_or l i 0) 0) ≡ below n (λ i. eqb (get_or l i 0) 0)
-none_within l n = below-ext n _ _ (λ i h. bound-zero (get_or l i 0))
+none_within l n = below_ext n _ _ (λ i h. bound_zero (get_or l i 0))

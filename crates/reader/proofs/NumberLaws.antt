@@ -11,10 +11,10 @@ use mir.Val.{Fits, SFits, of_z, to_z}
 use mir.ValLaws.{to_z_pos}
 use borrow.Author.Tests.{lt-ltb, le-ltb, le-leb, ne_eqb, eq-eqb, ltb-true, ltb-false, eqb-true}
 use Rattle.common.proofs.TestLaws.{alike}
-use Rattle.reader.proofs.SizeLaws.{ids-byte}
+use Rattle.reader.proofs.SizeLaws.{ids_byte}
 use Rattle.reader.specs.Records.{signed}
 use Rattle.reader.specs.Sizes.{ids}
-use Rattle.reader.specs.Steps.{isVersion, isId, id_of, isMemory}
+use Rattle.reader.specs.Steps.{is_version, is_id, id_of, is_memory}
 
 -- what a number of 64 bits is read as
 pub signed_low : (x : ℕ) → x < 2 ^ 63 → to_z w64 x ≡ signed x
@@ -31,34 +31,34 @@ unfolding signed
 signed_high x h l =
     rw (le-ltb x (2 ^ 63) h, to_z_pos w64 (2 ^ 64 - 1 - x) (omega arith)) (less_one (2 ^ 64 - 1 - x))
 
-pub signed-fits : (x : ℕ) → x < 2 ^ 64 → SFits w64 (signed x)
+pub signed_fits : (x : ℕ) → x < 2 ^ 64 → SFits w64 (signed x)
 unfolding signed
-signed-fits x h = by (ltb x (2 ^ 63)) refl
+signed_fits x h = by (ltb x (2 ^ 63)) refl
   where
     by : (t : Bool) → ltb x (2 ^ 63) ≡ t → SFits w64 (signed x)
     by true e = rw e (record { sfits = ltb-true x (2 ^ 63) e })
     by false e = let l = ltb-false x (2 ^ 63) e in rw e (record { sfits = omega arith })
 
 -- the tests of the code, on the bits
-pub version-bits : (z : ℤ) → SFits w64 z → eqb (of_z w64 z) 0 ≡ isVersion z
-unfolding isVersion
-version-bits (pos n) f = refl
-version-bits (negsuc n) f = let l : n < 2 ^ 63 = f.sfits in ne_eqb (2 ^ 64 - suc n) 0 (λ e. omega arith)
+pub version_bits : (z : ℤ) → SFits w64 z → eqb (of_z w64 z) 0 ≡ is_version z
+unfolding is_version
+version_bits (pos n) f = refl
+version_bits (negsuc n) f = let l : n < 2 ^ 63 = f.sfits in ne_eqb (2 ^ 64 - suc n) 0 (λ e. omega arith)
 
-pub memory-bits : (z : ℤ) → SFits w64 z → eqb (of_z w64 z) (2 ^ 64 - 1) ≡ isMemory z
-unfolding isMemory
-memory-bits (pos n) f = let l : n < 2 ^ 63 = f.sfits in ne_eqb n (2 ^ 64 - 1) (λ e. omega arith)
-memory-bits (negsuc n) f =
+pub memory_bits : (z : ℤ) → SFits w64 z → eqb (of_z w64 z) (2 ^ 64 - 1) ≡ is_memory z
+unfolding is_memory
+memory_bits (pos n) f = let l : n < 2 ^ 63 = f.sfits in ne_eqb n (2 ^ 64 - 1) (λ e. omega arith)
+memory_bits (negsuc n) f =
     let l : n < 2 ^ 63 = f.sfits in
     alike (eqb (2 ^ 64 - suc n) (2 ^ 64 - 1)) (eqb n 0)
     (λ e. let q = eqb-true (2 ^ 64 - suc n) (2 ^ 64 - 1) e in eq-eqb n 0 (omega arith))
     (λ e. let q = eqb-true n 0 e in eq-eqb (2 ^ 64 - suc n) (2 ^ 64 - 1) (omega arith))
 
 -- ids: from 0 on, and below their number
-pub id-order : (z : ℤ) → le_z (pos 0) z && lt_z z (pos ids) ≡ isId z
-unfolding isId
-id-order (pos n) = rw (le-leb 0 n (omega arith))
-id-order (negsuc n) = refl
+pub id_order : (z : ℤ) → le_z (pos 0) z && lt_z z (pos ids) ≡ is_id z
+unfolding is_id
+id_order (pos n) = rw (le-leb 0 n (omega arith))
+id_order (negsuc n) = refl
 
 -- an id is not negative, fits a byte, and is the number's magnitude
 pub record IdNumber (z : ℤ) : Type 0 where
@@ -67,9 +67,9 @@ pub record IdNumber (z : ℤ) : Type 0 where
   pub is : nat_abs z ≡ id_of z
   pub below : nat_abs z < ids
 
-pub id-number : (z : ℤ) → isId z ≡ true → IdNumber z
-unfolding isId id_of
-id-number (pos n) e =
+pub id_number : (z : ℤ) → is_id z ≡ true → IdNumber z
+unfolding is_id id_of
+id_number (pos n) e =
     let l : n < ids = ltb-true n ids e in
-    record { whole = tt; byte = record { fits = omega (arith, ids-byte) }; is = refl; below = l }
-id-number (negsuc n) e = let z : ◌≡◌ {A = ℕ} 0 1 = cc in absurd (omega arith)
+    record { whole = tt; byte = record { fits = omega (arith, ids_byte) }; is = refl; below = l }
+id_number (negsuc n) e = let z : ◌≡◌ {A = ℕ} 0 1 = cc in absurd (omega arith)

@@ -10,9 +10,9 @@ use lib.Seq.{sets, sets-eq, length-sets, length-take-le, get_or-append-add, get_
 use borrow.Author.Tests.{ltb-true, ltb-false, lt-ltb, le-ltb}
 use Rattle.common.specs.Bytes.{number}
 use Rattle.common.specs.Lists.{tabulate}
-use Rattle.common.proofs.ListLaws.{length-tabulate, get_d_tabulate}
+use Rattle.common.proofs.ListLaws.{length_tabulate, get_d_tabulate}
 use Rattle.reader.specs.Parts.{placed}
-use Rattle.reader.specs.Records.{signed, recordIn, recordOf}
+use Rattle.reader.specs.Records.{signed, record_in, record_of}
 
 -- a byte of two lists, the first a front
 front : (l ys : List ℕ) (n k : ℕ) → n ≤ length l → get_or (take n l ++ ys) k 0 ≡ cond (ltb k n) (get_or l k 0) (get_or ys (k - n) 0)
@@ -65,17 +65,17 @@ module _ (bytes input : List ℕ) (held : ℕ) (eight : length bytes ≡ 8) (roo
 
   pub all_held : tabulate 8 (placed bytes held input) ≡ sets bytes held input
   all_held =
-      ext_get_or 0 _ _ (length-tabulate 8 (placed bytes held input) ∙ sym (length-sets bytes held input ∙ eight))
-      (λ k l. get_d_tabulate 8 (placed bytes held input) k 0 (rw length-tabulate at l) ∙ held_at k)
+      ext_get_or 0 _ _ (length_tabulate 8 (placed bytes held input) ∙ sym (length-sets bytes held input ∙ eight))
+      (λ k l. get_d_tabulate 8 (placed bytes held input) k 0 (rw length_tabulate at l) ∙ held_at k)
 
 -- where a record is whole: its nine bytes are the eight places and the next of the input
 module _ (bytes input : List ℕ) (held : ℕ) (eight : length bytes ≡ 8) (few : held ≤ 8) (whole : 9 - held ≤ length input) where
   all : List ℕ
   all = take held bytes ++ input
 
-  length-all : length all ≡ held + length input
+  length_all : length all ≡ held + length input
   unfolding all
-  length-all = length-append (take held bytes) input ∙ ap (λ (n : ℕ). n + length input) (length-take-le held bytes (omega arith))
+  length_all = length-append (take held bytes) input ∙ ap (λ (n : ℕ). n + length input) (length-take-le held bytes (omega arith))
 
   byte_at : (k : ℕ) → k < 8 → get_or all k 0 ≡ placed bytes held input k
   unfolding all placed
@@ -92,11 +92,11 @@ module _ (bytes input : List ℕ) (held : ℕ) (eight : length bytes ≡ 8) (few
   last_byte = front bytes input held 8 (omega arith) ∙ rw (le-ltb 8 held few)
 
   next : (j : ℕ) → j < 9 → drop j all ≡ get_or all j 0 ∷ drop (suc j) all
-  next j h = drop-cons all j 0 (rw length-all (omega arith))
+  next j h = drop-cons all j 0 (rw length_all (omega arith))
 
-  eight-bytes : take 8 (drop 1 all)
+  eight_bytes : take 8 (drop 1 all)
       ≡ get_or all 1 0 ∷ get_or all 2 0 ∷ get_or all 3 0 ∷ get_or all 4 0 ∷ get_or all 5 0 ∷ get_or all 6 0 ∷ get_or all 7 0 ∷ get_or all 8 0 ∷ []
-  eight-bytes =
+  eight_bytes =
       rw (
         next 1 (omega arith),
         next 2 (omega arith),
@@ -109,16 +109,16 @@ module _ (bytes input : List ℕ) (held : ℕ) (eight : length bytes ≡ 8) (few
       )
 
   -- the number's bytes, as the code has them
-  abbrev pub numberBytes : List ℕ
-  numberBytes =
+  abbrev pub number_bytes : List ℕ
+  number_bytes =
       placed bytes held input 1 ∷ placed bytes held input 2 ∷ placed bytes held input 3 ∷ placed bytes held input 4
       ∷ placed bytes held input 5 ∷ placed bytes held input 6 ∷ placed bytes held input 7 ∷ get_or input (8 - held) 0 ∷ []
 
-  pub record-whole : recordIn (take held bytes ++ input) ≡ recordOf (placed bytes held input 0) (signed (number numberBytes))
-  unfolding recordIn all
-  record-whole =
+  pub record_whole : record_in (take held bytes ++ input) ≡ record_of (placed bytes held input 0) (signed (number number_bytes))
+  unfolding record_in all
+  record_whole =
       rw (
-        eight-bytes,
+        eight_bytes,
         byte_at 0 (omega arith),
         byte_at 1 (omega arith),
         byte_at 2 (omega arith),

@@ -4,13 +4,13 @@ use Rattle.reader.specs.declared.Message.{Message}
 use Rattle.reader.specs.declared.Message.TheVariants.{More, Version, Id, Memory, Vector, Extra, Disconnected, Closed}
 use Rattle.reader.specs.Cutting.{Calls}
 use Rattle.reader.specs.Reading.{State, start, read, refusal}
-use Rattle.reader.specs.Records.{Record, recordBytes, recordIn, withoutDescriptor}
-use Rattle.reader.specs.Sizes.{ids, mostVectors}
-use Rattle.reader.specs.Steps.{isVersion, isId, id_of, closed_step}
+use Rattle.reader.specs.Records.{Record, record_bytes, record_in, without_descriptor}
+use Rattle.reader.specs.Sizes.{ids, most_vectors}
+use Rattle.reader.specs.Steps.{is_version, is_id, id_of, closed_step}
 
 -- R93: the start is accepted with every number of vectors in its range;
 abbrev pub StartIsGood : Type 0
-StartIsGood = (vectors : ℕ) → 1 ≤ vectors → vectors ≤ mostVectors → refusal vectors start ≡ 0
+StartIsGood = (vectors : ℕ) → 1 ≤ vectors → vectors ≤ most_vectors → refusal vectors start ≡ 0
 
 -- and what an accepted call gives back is accepted again, with the same number.
 abbrev pub GoodStaysGood : Type 0
@@ -62,19 +62,19 @@ ClosedStays =
     (vectors : ℕ) (s after : State) (bytes : List ℕ) (messages : List Message) → refusal vectors s ≡ 0 → s.progress.due ≡ closed_step
     → Calls vectors s bytes messages after
     → Same s after
-    × ((after.progress.due ≡ closed_step) × (messages ≡ replicate ((s.progress.held + length bytes) / recordBytes) Closed))
+    × ((after.progress.due ≡ closed_step) × (messages ≡ replicate ((s.progress.held + length bytes) / record_bytes) Closed))
 
 -- R96: our own id is what the second record said: an id without a descriptor, after the version without one. Else it is 0.
-unfoldable pub saidBy : (first second : Record) → ℕ
-saidBy first second =
-    cond ((isVersion first.value && withoutDescriptor first) && (isId second.value && withoutDescriptor second))
+unfoldable pub said_by : (first second : Record) → ℕ
+said_by first second =
+    cond ((is_version first.value && without_descriptor first) && (is_id second.value && without_descriptor second))
     (id_of second.value) 0
 
 -- the two records at the front of a stream; 0 where they are not both whole
-unfoldable pub ownSaid : List ℕ → ℕ
-ownSaid bytes = cond (leb (2 * recordBytes) (length bytes)) (saidBy (recordIn bytes) (recordIn (drop recordBytes bytes))) 0
+unfoldable pub own_said : List ℕ → ℕ
+own_said bytes = cond (leb (2 * record_bytes) (length bytes)) (said_by (record_in bytes) (record_in (drop record_bytes bytes))) 0
 
 abbrev pub OwnIsSecond : Type 0
 OwnIsSecond =
     (vectors : ℕ) (bytes : List ℕ) (messages : List Message) (after : State) → Calls vectors start bytes messages after
-    → after.progress.own ≡ ownSaid bytes
+    → after.progress.own ≡ own_said bytes

@@ -2,8 +2,8 @@
 use Rattle.std.specs.Prelude.{ℕ, ◌≤◌, ◌<◌, List, ◌≡◌, get_or}
 use Rattle.reader.specs.declared.Message.{Message}
 use Rattle.reader.specs.Cutting.{Calls, Eight}
-use Rattle.reader.specs.Reading.{State, start, heldIn, known_in, refusal}
-use Rattle.reader.specs.Sizes.{mostVectors}
+use Rattle.reader.specs.Reading.{State, start, held_in, known_in, refusal}
+use Rattle.reader.specs.Sizes.{most_vectors}
 
 -- every number of a list is a byte
 abbrev pub Small : List ℕ → Type 0
@@ -18,8 +18,8 @@ pub record Reaches (vectors : ℕ) (s : State) : Type 0 where
   pub calls : Calls vectors start bytes messages after
   pub known : known_in after ≡ known_in s
   pub held : after.progress.held ≡ s.progress.held
-  pub heldBytes : heldIn after ≡ heldIn s
-  pub small : Small (heldIn s) → Small bytes
+  pub held_bytes : held_in after ≡ held_in s
+  pub small : Small (held_in s) → Small bytes
 
 -- A progress and counts that are not refused are left by some stream,
 abbrev pub GoodIsReached : Type 0
@@ -27,4 +27,4 @@ GoodIsReached = (vectors : ℕ) (s : State) → Eight s → refusal vectors s �
 
 -- and what a stream leaves is not refused.
 abbrev pub ReachedIsGood : Type 0
-ReachedIsGood = (vectors : ℕ) (s : State) → 1 ≤ vectors → vectors ≤ mostVectors → Reaches vectors s → refusal vectors s ≡ 0
+ReachedIsGood = (vectors : ℕ) (s : State) → 1 ≤ vectors → vectors ≤ most_vectors → Reaches vectors s → refusal vectors s ≡ 0

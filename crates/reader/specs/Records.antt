@@ -6,27 +6,27 @@ pub record Record : Type 0 where
   pub kind : ℕ
   pub value : ℤ
 
-abbrev pub recordOf : ℕ → ℤ → Record
-recordOf kind value = record { kind = kind; value = value }
+abbrev pub record_of : ℕ → ℤ → Record
+record_of kind value = record { kind = kind; value = value }
 
 -- how many bytes a record has, and how many of them are held at the most
-abbrev pub recordBytes : ℕ
-recordBytes = 9
+abbrev pub record_bytes : ℕ
+record_bytes = 9
 
-abbrev pub heldPlaces : ℕ
-heldPlaces = 8
+abbrev pub held_places : ℕ
+held_places = 8
 
 -- the number whose two's complement of 64 bits this is
 unfoldable pub signed : ℕ → ℤ
 signed x = cond (ltb x (2 ^ 63)) (pos x) (negsuc (2 ^ 64 - 1 - x))
 
 -- the record at the front of bytes
-unfoldable pub recordIn : List ℕ → Record
-recordIn bs = recordOf (get_or bs 0 0) (signed (number (take 8 (drop 1 bs))))
+unfoldable pub record_in : List ℕ → Record
+record_in bs = record_of (get_or bs 0 0) (signed (number (take 8 (drop 1 bs))))
 
 -- R82: kind 00h comes without a descriptor, kind 01h with one
-abbrev pub withoutDescriptor : Record → Bool
-withoutDescriptor r = eqb r.kind 0
+abbrev pub without_descriptor : Record → Bool
+without_descriptor r = eqb r.kind 0
 
-abbrev pub withDescriptor : Record → Bool
-withDescriptor r = eqb r.kind 1
+abbrev pub with_descriptor : Record → Bool
+with_descriptor r = eqb r.kind 1

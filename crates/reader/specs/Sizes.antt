@@ -5,5 +5,5 @@ use Rattle.std.specs.Prelude.{ℕ}
 unfoldable pub ids : ℕ
 ids = 64
 
-unfoldable pub mostVectors : ℕ
-mostVectors = 16
+unfoldable pub most_vectors : ℕ
+most_vectors = 16

@@ -2,21 +2,21 @@
 use Rattle.std.specs.Prelude.{ℕ, ◌+◌, Bool, false, cond, not, ◌&&◌, List, eqb, ltb, ℤ, pos, negsuc, get_or, set}
 use Rattle.reader.specs.declared.Message.{Message}
 use Rattle.reader.specs.declared.Message.TheVariants.{Version, Id, Memory, Vector, Extra, Disconnected, Closed}
-use Rattle.reader.specs.Records.{Record, withoutDescriptor, withDescriptor}
+use Rattle.reader.specs.Records.{Record, without_descriptor, with_descriptor}
 use Rattle.reader.specs.Sizes.{ids}
 
 -- the steps, by their number in the progress record
-abbrev pub versionDue : ℕ
-versionDue = 0
+abbrev pub version_due : ℕ
+version_due = 0
 
-abbrev pub idDue : ℕ
-idDue = 1
+abbrev pub id_due : ℕ
+id_due = 1
 
-abbrev pub memoryDue : ℕ
-memoryDue = 2
+abbrev pub memory_due : ℕ
+memory_due = 2
 
-abbrev pub peersDue : ℕ
-peersDue = 3
+abbrev pub peers_due : ℕ
+peers_due = 3
 
 abbrev pub closed_step : ℕ
 closed_step = 4
@@ -49,35 +49,35 @@ abbrev pub closes : Known → Result
 closes k = result Closed (known closed_step k.own k.counts)
 
 -- the numbers that a record may have: the version 0, the ids 0 to 63, and -1 for the memory
-unfoldable pub isVersion : ℤ → Bool
-isVersion (pos n) = eqb n 0
-isVersion (negsuc n) = false
+unfoldable pub is_version : ℤ → Bool
+is_version (pos n) = eqb n 0
+is_version (negsuc n) = false
 
-unfoldable pub isId : ℤ → Bool
-isId (pos n) = ltb n ids
-isId (negsuc n) = false
+unfoldable pub is_id : ℤ → Bool
+is_id (pos n) = ltb n ids
+is_id (negsuc n) = false
 
 -- asked only where the number is an id
 unfoldable pub id_of : ℤ → ℕ
 id_of (pos n) = n
 id_of (negsuc n) = 0
 
-unfoldable pub isMemory : ℤ → Bool
-isMemory (pos n) = false
-isMemory (negsuc n) = eqb n 0
+unfoldable pub is_memory : ℤ → Bool
+is_memory (pos n) = false
+is_memory (negsuc n) = eqb n 0
 
 -- R83: first the version 0, without a descriptor
-unfoldable pub versionStep : Known → Record → Result
-versionStep k r = cond (isVersion r.value && withoutDescriptor r) (result Version (known idDue k.own k.counts)) (closes k)
+unfoldable pub version_step : Known → Record → Result
+version_step k r = cond (is_version r.value && without_descriptor r) (result Version (known id_due k.own k.counts)) (closes k)
 
 -- R84: then our own id, without one
-unfoldable pub idStep : Known → Record → Result
-idStep k r =
-    cond (isId r.value && withoutDescriptor r) (result (Id (id_of r.value)) (known memoryDue (id_of r.value) k.counts)) (closes k)
+unfoldable pub id_step : Known → Record → Result
+id_step k r =
+    cond (is_id r.value && without_descriptor r) (result (Id (id_of r.value)) (known memory_due (id_of r.value) k.counts)) (closes k)
 
 -- R85: then -1, with one
-unfoldable pub memoryStep : Known → Record → Result
-memoryStep k r = cond (isMemory r.value && withDescriptor r) (result Memory (known peersDue k.own k.counts)) (closes k)
+unfoldable pub memory_step : Known → Record → Result
+memory_step k r = cond (is_memory r.value && with_descriptor r) (result Memory (known peers_due k.own k.counts)) (closes k)
 
 -- R86: an id with a descriptor adds one vector to it, up to the configured number; one above that is extra and changes no count
 unfoldable pub adds : (vectors : ℕ) → Known → ℕ → Result
@@ -89,15 +89,15 @@ adds vectors k id =
 unfoldable pub removes : Known → ℕ → Result
 removes k id = cond (not (eqb id k.own) && ltb 0 (count k id)) (result (Disconnected id) (counted k id 0)) (closes k)
 
-unfoldable pub peersStep : (vectors : ℕ) → Known → Record → Result
-peersStep vectors k r =
-    cond (isId r.value && withDescriptor r) (adds vectors k (id_of r.value))
-    (cond (isId r.value && withoutDescriptor r) (removes k (id_of r.value)) (closes k))
+unfoldable pub peers_step : (vectors : ℕ) → Known → Record → Result
+peers_step vectors k r =
+    cond (is_id r.value && with_descriptor r) (adds vectors k (id_of r.value))
+    (cond (is_id r.value && without_descriptor r) (removes k (id_of r.value)) (closes k))
 
 -- one whole record, by the step that is due; R88: anything else closes, and so does every record after a close
-unfoldable pub readRecord : (vectors : ℕ) → Known → Record → Result
-readRecord vectors k r =
-    cond (eqb k.due versionDue) (versionStep k r)
-    (cond (eqb k.due idDue) (idStep k r)
-    (cond (eqb k.due memoryDue) (memoryStep k r)
-    (cond (eqb k.due peersDue) (peersStep vectors k r) (closes k))))
+unfoldable pub read_record : (vectors : ℕ) → Known → Record → Result
+read_record vectors k r =
+    cond (eqb k.due version_due) (version_step k r)
+    (cond (eqb k.due id_due) (id_step k r)
+    (cond (eqb k.due memory_due) (memory_step k r)
+    (cond (eqb k.due peers_due) (peers_step vectors k r) (closes k))))

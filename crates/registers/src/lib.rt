@@ -1,9 +1,9 @@
 // The register region: what a read gives, and the registers with one of them stored to.
 ghost use Rattle.std.specs.Prelude.{◌≡◌, ◌<◌, ◌^◌};
 ghost use Rattle.std.specs.Int.Bits.{bit_and};
-ghost use Rattle.device.specs.Effect.{withState, stateValue, changes, rungPeer, rungVector};
-ghost use Rattle.device.specs.Ring.{withInterrupt};
-ghost use Rattle.device.specs.Registers.{memoryOn, registerAt, registerValue, registerRead};
+ghost use Rattle.device.specs.Effect.{with_state, state_value, changes, rung_peer, rung_vector};
+ghost use Rattle.device.specs.Ring.{with_interrupt};
+ghost use Rattle.device.specs.Registers.{memory_on, register_at, register_value, register_read};
 
 use device::{Peer, PeerId, Settings, Vector};
 
@@ -12,14 +12,14 @@ pub const UNMAPPED: u64 = 0xFFFFFFFF;
 
 // Command bit 1, Memory Space.
 pub fn memory_on(p: Peer) -> bool
-    ensures { result ≡ memoryOn p }
+    ensures { result ≡ memory_on p }
 {
     p.command / 2 % 2 == 1
 }
 
 fn value(s: Settings, who: u64, p: Peer, at: u64) -> u64
     requires { (who < 2 ^ 32) × (s.peers < 2 ^ 32) }
-    ensures is { result ≡ registerValue s who p (registerAt at) }
+    ensures is { result ≡ register_value s who p (register_at at) }
     ensures fits { result < 2 ^ 32 }
 {
     match at {
@@ -34,7 +34,7 @@ fn value(s: Settings, who: u64, p: Peer, at: u64) -> u64
 
 pub fn read(s: Settings, who: u64, p: Peer, at: u64) -> u64
     requires { (who < 2 ^ 32) × (s.peers < 2 ^ 32) }
-    ensures is { result ≡ registerRead s who p at }
+    ensures is { result ≡ register_read s who p at }
     ensures fits { result < 2 ^ 32 }
 {
     let on = memory_on(p);
@@ -43,7 +43,7 @@ pub fn read(s: Settings, who: u64, p: Peer, at: u64) -> u64
 
 // Interrupt Control has bit 0 only.
 pub fn with_interrupt(p: Peer, value: u32) -> Peer
-    ensures { result ≡ withInterrupt p (bit_and value 1) }
+    ensures { result ≡ with_interrupt p (bit_and value 1) }
 {
     let mut q = p;
     q.interrupt = value & 1;
@@ -52,7 +52,7 @@ pub fn with_interrupt(p: Peer, value: u32) -> Peer
 
 // The definition takes 32 bits of any number, as this mask does; of a `u32` it takes all.
 pub fn with_state(p: Peer, value: u32) -> Peer
-    ensures { result ≡ withState p (stateValue value) }
+    ensures { result ≡ with_state p (state_value value) }
 {
     let mut q = p;
     q.state = value & 0xFFFFFFFF;
@@ -68,13 +68,13 @@ pub fn state_changes(old: u32, new: u32) -> bool
 
 // A Doorbell store's vector, bits 0-15, and target, bits 16-31.
 pub fn rung_vector(value: u32) -> Vector
-    ensures { result ≡ rungVector value }
+    ensures { result ≡ rung_vector value }
 {
     Vector((value % 65536) as u16)
 }
 
 pub fn rung_peer(value: u32) -> PeerId
-    ensures { result ≡ rungPeer value }
+    ensures { result ≡ rung_peer value }
 {
     PeerId((value / 65536 % 65536) as u16)
 }

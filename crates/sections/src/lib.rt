@@ -1,7 +1,7 @@
 // The sections of the shared region: which one holds a range, and who may store to it.
 ghost use Rattle.std.specs.Prelude.{◌≡◌, true, ◌+◌, ◌≤◌, ◌<◌, ◌^◌};
 ghost use Rattle.device.specs.SetUp.{accepted};
-ghost use Rattle.device.specs.Sections.{outputs, sectionIn, sectionOf, somewhere, mayStore, answer_of};
+ghost use Rattle.device.specs.Sections.{outputs, section_in, section_of, somewhere, may_store, answer_of};
 
 use device::{PeerId, SectionAnswer, SectionKind, Settings};
 
@@ -12,7 +12,7 @@ const MOST_BYTES: u64 = 0x40000000;
 fn output_of(s: Settings, offset: u64, length: u64) -> SectionKind
     requires numbers { accepted s ≡ true }
     requires range { (0 < length) × (offset + length ≤ 2 ^ 31) }
-    ensures { result ≡ sectionIn offset length (outputs s 0 s.peers) }
+    ensures { result ≡ section_in offset length (outputs s 0 s.peers) }
 {
     let first = s.table + s.common;
     let size = s.output;
@@ -35,7 +35,7 @@ fn output_of(s: Settings, offset: u64, length: u64) -> SectionKind
 pub fn section_of(s: Settings, offset: u64, length: u64) -> SectionKind
     requires numbers { accepted s ≡ true }
     requires range { 0 < length }
-    ensures { result ≡ sectionOf s offset length }
+    ensures { result ≡ section_of s offset length }
 {
     if MOST_BYTES < offset {
         return SectionKind::Nothing;
@@ -67,7 +67,7 @@ pub fn is_somewhere(kind: SectionKind) -> bool
 }
 
 pub fn may_store(who: u64, kind: SectionKind) -> bool
-    ensures { result ≡ mayStore who kind }
+    ensures { result ≡ may_store who kind }
 {
     match kind {
         SectionKind::Nothing => false,

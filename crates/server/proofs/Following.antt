@@ -3,177 +3,177 @@ use Prim.Native.Nat.{ℕ, ◌≤◌, ◌<◌}
 use mathlib.Core.Bool.{true, false, cond, not, ◌&&◌, true≢false}
 use mathlib.Core.List.{List, [], ◌∷◌, ◌++◌, append-nil}
 use mathlib.Core.Path.{◌≡◌, refl, sym, ◌∙◌}
-use Rattle.common.proofs.TestLaws.{by_equal, and-false}
+use Rattle.common.proofs.TestLaws.{by_equal, and_false}
 use Rattle.common.specs.Streams.{joined}
-use Rattle.reader.proofs.Cutting.{every-stream-is-read, pieces-are-bytes}
-use Rattle.reader.proofs.Keeping.{start-is-good}
+use Rattle.reader.proofs.Cutting.{every_stream_is_read, pieces_are_bytes}
+use Rattle.reader.proofs.Keeping.{start_is_good}
 use Rattle.reader.proofs.ReadLaws.{by_bool, by_less}
 use Rattle.reader.specs.Reading.{start, refusal}
 use Rattle.reader.specs.Records.{Record}
 use Rattle.reader.specs.Sizes.{ids}
 use Rattle.reader.specs.Steps.{known}
 use Rattle.server.specs.declared.Server.{Server}
-use Rattle.server.proofs.FreeLaws.{lowest-is-free}
-use Rattle.server.proofs.JoinedLaws.{none-joined, with-same, with-other, without-same, without_other}
-use Rattle.server.proofs.RecordLaws.{for-append, for-own, for-other, for-joined, for-free}
-use Rattle.server.proofs.ServeLaws.{nobody, started-vectors, by-join, by_leave, joins-free, joins-full, leaves-joined, leaves_free}
-use Rattle.server.proofs.TellLaws.{Told, told-joiner, told-join, told-leave}
-use Rattle.server.specs.Clients.{isJoined, joinedWith, joinedWithout, clients, lowestFree}
-use Rattle.server.specs.Histories.{Act, joining, leaving, outcome, recordsFor, Seen, isThere, next, seenFrom, seen, stream}
-use Rattle.server.specs.Histories.{countsOf, ReadersFollow, PeersAreNow, LeaversKeep, LeaversHearNothing}
+use Rattle.server.proofs.FreeLaws.{lowest_is_free}
+use Rattle.server.proofs.JoinedLaws.{none_joined, with_same, with_other, without_same, without_other}
+use Rattle.server.proofs.RecordLaws.{for_append, for_own, for_other, for_joined, for_free}
+use Rattle.server.proofs.ServeLaws.{nobody, started_vectors, by_join, by_leave, joins_free, joins_full, leaves_joined, leaves_free}
+use Rattle.server.proofs.TellLaws.{Told, told_joiner, told_join, told_leave}
+use Rattle.server.specs.Clients.{is_joined, joined_with, joined_without, clients, lowest_free}
+use Rattle.server.specs.Histories.{Act, joining, leaving, outcome, records_for, Seen, is_there, next, seen_from, seen, stream}
+use Rattle.server.specs.Histories.{counts_of, ReadersFollow, PeersAreNow, LeaversKeep, LeaversHearNothing}
 use Rattle.server.specs.Histories.{JoinersStartAfresh}
-use Rattle.server.specs.Messages.{vectors_of, hasLeft, toJoiner, toOthers, joinMessages, leaveMessages}
-use Rattle.server.specs.Serving.{Outcome, serverOf, started, refusedBy, joinAs, leaveAs}
+use Rattle.server.specs.Messages.{vectors_of, has_left, to_joiner, to_others, join_messages, leave_messages}
+use Rattle.server.specs.Serving.{Outcome, server_of, started, refused_by, join_as, leave_as}
 
 -- what a call is to one client: the state that it leaves, and the records that it has for the client
 data Happens (client : ℕ) (s : Server) : Server → List Record → Type 0 where
   refused : Happens client s s []
-  joinsItself : client < ids → isThere client s ≡ false
-      → Happens client s (serverOf (joinedWith s.joined client) s.vectors) (toJoiner s.vectors (clients s.joined) client)
-  otherJoins : (id : ℕ) → id < ids → isJoined s.joined id ≡ false → (client ≡ id → ⊥) → isThere client s ≡ true
-      → Happens client s (serverOf (joinedWith s.joined id) s.vectors) (vectors_of s.vectors id)
-  otherLeaves : (id : ℕ) → isJoined s.joined id ≡ true → (client ≡ id → ⊥) → isThere client s ≡ true
-      → Happens client s (serverOf (joinedWithout s.joined id) s.vectors) (hasLeft id ∷ [])
-  notThere : (now : Server) → now.vectors ≡ s.vectors → isThere client now ≡ false → Happens client s now []
+  joins_itself : client < ids → is_there client s ≡ false
+      → Happens client s (server_of (joined_with s.joined client) s.vectors) (to_joiner s.vectors (clients s.joined) client)
+  other_joins : (id : ℕ) → id < ids → is_joined s.joined id ≡ false → (client ≡ id → ⊥) → is_there client s ≡ true
+      → Happens client s (server_of (joined_with s.joined id) s.vectors) (vectors_of s.vectors id)
+  other_leaves : (id : ℕ) → is_joined s.joined id ≡ true → (client ≡ id → ⊥) → is_there client s ≡ true
+      → Happens client s (server_of (joined_without s.joined id) s.vectors) (has_left id ∷ [])
+  not_there : (now : Server) → now.vectors ≡ s.vectors → is_there client now ≡ false → Happens client s now []
 
 abbrev Is : (client : ℕ) → Server → Outcome → Type 0
-Is client s o = Happens client s o.server (recordsFor client o.sent)
+Is client s o = Happens client s o.server (records_for client o.sent)
 
 module _ (client : ℕ) (s : Server) where
-  is-refused : (number : ℕ) → Is client s (refusedBy number s)
-  unfolding recordsFor
-  is-refused number = refused
+  is_refused : (number : ℕ) → Is client s (refused_by number s)
+  unfolding records_for
+  is_refused number = refused
 
   module _ (id : ℕ) where
-    join-own : isJoined s.joined client ≡ false → id ≡ client
-        → recordsFor client (joinMessages s.vectors (clients s.joined) id) ≡ toJoiner s.vectors (clients s.joined) client
-    unfolding joinMessages toOthers
-    join-own free same =
-        rw (same, for-append client, for-own client, for-free client s.joined (vectors_of s.vectors client) free) (append-nil _)
+    join_own : is_joined s.joined client ≡ false → id ≡ client
+        → records_for client (join_messages s.vectors (clients s.joined) id) ≡ to_joiner s.vectors (clients s.joined) client
+    unfolding join_messages to_others
+    join_own free same =
+        rw (same, for_append client, for_own client, for_free client s.joined (vectors_of s.vectors client) free) (append-nil _)
 
-    join-other : (records : List Record) → (id ≡ client → ⊥)
-        → recordsFor client (toOthers s.vectors (clients s.joined) id) ≡ records
-        → recordsFor client (joinMessages s.vectors (clients s.joined) id) ≡ records
-    unfolding joinMessages
-    join-other records o e = rw (for-append client, for-other client id o, e)
+    join_other : (records : List Record) → (id ≡ client → ⊥)
+        → records_for client (to_others s.vectors (clients s.joined) id) ≡ records
+        → records_for client (join_messages s.vectors (clients s.joined) id) ≡ records
+    unfolding join_messages
+    join_other records o e = rw (for_append client, for_other client id o, e)
 
-    others-joined : isThere client s ≡ true
-        → recordsFor client (toOthers s.vectors (clients s.joined) id) ≡ vectors_of s.vectors id
-    unfolding toOthers
-    others-joined e = for-joined client s.joined (vectors_of s.vectors id) e
+    others_joined : is_there client s ≡ true
+        → records_for client (to_others s.vectors (clients s.joined) id) ≡ vectors_of s.vectors id
+    unfolding to_others
+    others_joined e = for_joined client s.joined (vectors_of s.vectors id) e
 
-    others-free : isThere client s ≡ false → recordsFor client (toOthers s.vectors (clients s.joined) id) ≡ []
-    unfolding toOthers
-    others-free e = for-free client s.joined (vectors_of s.vectors id) e
+    others_free : is_there client s ≡ false → records_for client (to_others s.vectors (clients s.joined) id) ≡ []
+    unfolding to_others
+    others_free e = for_free client s.joined (vectors_of s.vectors id) e
 
-    of-join : id < ids → isJoined s.joined id ≡ false → Is client s (joinAs s id)
-    of-join h free =
+    of_join : id < ids → is_joined s.joined id ≡ false → Is client s (join_as s id)
+    of_join h free =
         by_equal id client
         (λ same.
-        let f : isThere client s ≡ false = rw same at free in
-        rw (join-own f same, same) (joinsItself (rw same at h) f))
+        let f : is_there client s ≡ false = rw same at free in
+        rw (join_own f same, same) (joins_itself (rw same at h) f))
         (λ o.
         let away : client ≡ id → ⊥ = λ e. o (sym e) in
-        by_bool (isThere client s) (λ e. rw (join-other (vectors_of s.vectors id) o (others-joined e)) (otherJoins id h free away e))
+        by_bool (is_there client s) (λ e. rw (join_other (vectors_of s.vectors id) o (others_joined e)) (other_joins id h free away e))
         (λ e.
-        rw (join-other [] o (others-free e))
-        (notThere (serverOf (joinedWith s.joined id) s.vectors) refl (with-other s.joined id h free client away ∙ e))))
+        rw (join_other [] o (others_free e))
+        (not_there (server_of (joined_with s.joined id) s.vectors) refl (with_other s.joined id h free client away ∙ e))))
 
-    of-leave : isJoined s.joined id ≡ true → Is client s (leaveAs s id)
-    unfolding leaveMessages
-    of-leave e =
-        let left = joinedWithout s.joined id in
+    of_leave : is_joined s.joined id ≡ true → Is client s (leave_as s id)
+    unfolding leave_messages
+    of_leave e =
+        let left = joined_without s.joined id in
         by_equal id client
         (λ same.
-        let gone : isJoined left client ≡ false = rw (← same) (without-same s.joined id e) in
-        rw (for-free client left (hasLeft id ∷ []) gone) (notThere (serverOf left s.vectors) refl gone))
+        let gone : is_joined left client ≡ false = rw (← same) (without_same s.joined id e) in
+        rw (for_free client left (has_left id ∷ []) gone) (not_there (server_of left s.vectors) refl gone))
         (λ o.
         let away : client ≡ id → ⊥ = λ e. o (sym e) in
         let alike = without_other s.joined id e client away in
-        by_bool (isThere client s)
-        (λ there. rw (for-joined client left (hasLeft id ∷ []) (alike ∙ there)) (otherLeaves id e away there))
+        by_bool (is_there client s)
+        (λ there. rw (for_joined client left (has_left id ∷ []) (alike ∙ there)) (other_leaves id e away there))
         (λ gone.
-        rw (for-free client left (hasLeft id ∷ []) (alike ∙ gone)) (notThere (serverOf left s.vectors) refl (alike ∙ gone))))
+        rw (for_free client left (has_left id ∷ []) (alike ∙ gone)) (not_there (server_of left s.vectors) refl (alike ∙ gone))))
 
 happens : (client : ℕ) (s : Server) (a : Act) → Is client s (outcome a s)
 happens client s (joining room) =
-    by-join s room (Is client s) (is-refused client s)
-    (by_less (lowestFree s.joined) ids
-    (λ l. rw (joins-free s l) (of-join client s (lowestFree s.joined) l (lowest-is-free s.joined).free))
-    (λ l. rw (joins-full s l) (is-refused client s 12)))
+    by_join s room (Is client s) (is_refused client s)
+    (by_less (lowest_free s.joined) ids
+    (λ l. rw (joins_free s l) (of_join client s (lowest_free s.joined) l (lowest_is_free s.joined).free))
+    (λ l. rw (joins_full s l) (is_refused client s 12)))
 happens client s (leaving id room) =
-    by_leave s room (Is client s) (is-refused client s) id
-    (by_bool (isJoined s.joined id) (λ e. rw (leaves-joined s id e) (of-leave client s id e))
-    (λ e. rw (leaves_free s id e) (is-refused client s 4)))
+    by_leave s room (Is client s) (is_refused client s) id
+    (by_bool (is_joined s.joined id) (λ e. rw (leaves_joined s id e) (of_leave client s id e))
+    (λ e. rw (leaves_free s id e) (is_refused client s 4)))
 
 -- no record for one that is not there afterwards, and for one that was not there before all that a joiner is told
 module _ {client : ℕ} {s : Server} where
-  no_record : {now : Server} {records : List Record} → Happens client s now records → isThere client now ≡ false → records ≡ []
+  no_record : {now : Server} {records : List Record} → Happens client s now records → is_there client now ≡ false → records ≡ []
   no_record refused e = refl
-  no_record (joinsItself h f) e = absurd (true≢false (sym (with-same s.joined client h f) ∙ e))
-  no_record (otherJoins id h f o there) e = absurd (true≢false (sym there ∙ sym (with-other s.joined id h f client o) ∙ e))
-  no_record (otherLeaves id j o there) e = absurd (true≢false (sym there ∙ sym (without_other s.joined id j client o) ∙ e))
-  no_record (notThere now v f) e = refl
+  no_record (joins_itself h f) e = absurd (true≢false (sym (with_same s.joined client h f) ∙ e))
+  no_record (other_joins id h f o there) e = absurd (true≢false (sym there ∙ sym (with_other s.joined id h f client o) ∙ e))
+  no_record (other_leaves id j o there) e = absurd (true≢false (sym there ∙ sym (without_other s.joined id j client o) ∙ e))
+  no_record (not_there now v f) e = refl
 
-  all-records : {now : Server} {records : List Record} → Happens client s now records → isThere client s ≡ false → isThere client now ≡ true
-      → records ≡ toJoiner s.vectors (clients s.joined) client
-  all-records refused f e = absurd (true≢false (sym e ∙ f))
-  all-records (joinsItself h _) f e = refl
-  all-records (otherJoins id h _ o there) f e = absurd (true≢false (sym there ∙ f))
-  all-records (otherLeaves id j o there) f e = absurd (true≢false (sym there ∙ f))
-  all-records (notThere now v gone) f e = absurd (true≢false (sym e ∙ gone))
+  all_records : {now : Server} {records : List Record} → Happens client s now records → is_there client s ≡ false → is_there client now ≡ true
+      → records ≡ to_joiner s.vectors (clients s.joined) client
+  all_records refused f e = absurd (true≢false (sym e ∙ f))
+  all_records (joins_itself h _) f e = refl
+  all_records (other_joins id h _ o there) f e = absurd (true≢false (sym there ∙ f))
+  all_records (other_leaves id j o there) f e = absurd (true≢false (sym there ∙ f))
+  all_records (not_there now v gone) f e = absurd (true≢false (sym e ∙ gone))
 
-pub leavers-hear-nothing : LeaversHearNothing
-leavers-hear-nothing client s a e = no_record (happens client s a) e
+pub leavers_hear_nothing : LeaversHearNothing
+leavers_hear_nothing client s a e = no_record (happens client s a) e
 
-pub joiners-start-afresh : JoinersStartAfresh
-joiners-start-afresh client s a f e = all-records (happens client s a) f e
+pub joiners_start_afresh : JoinersStartAfresh
+joiners_start_afresh client s a f e = all_records (happens client s a) f e
 
 -- one call more, by whether the client is there before and afterwards
-abbrev seenAs : Server → List Record → ℕ → Seen
-seenAs s heard peers = record { server = s; heard = heard; peers = peers }
+abbrev seen_as : Server → List Record → ℕ → Seen
+seen_as s heard peers = record { server = s; heard = heard; peers = peers }
 
 abbrev moved : (client : ℕ) → Seen → Server → List Record → Seen
 moved client v now records =
-    seenAs now (cond (not (isThere client v.server) && isThere client now) [] v.heard ++ records)
-    (cond (isThere client now) now.joined v.peers)
+    seen_as now (cond (not (is_there client v.server) && is_there client now) [] v.heard ++ records)
+    (cond (is_there client now) now.joined v.peers)
 
 module _ (client : ℕ) (v : Seen) (now : Server) where
-  moved-quiet : isThere client now ≡ false → moved client v now [] ≡ seenAs now v.heard v.peers
-  moved-quiet e = rw (e, and-false (not (isThere client v.server)) false refl, append-nil v.heard)
+  moved_quiet : is_there client now ≡ false → moved client v now [] ≡ seen_as now v.heard v.peers
+  moved_quiet e = rw (e, and_false (not (is_there client v.server)) false refl, append-nil v.heard)
 
-  moved_new : (records : List Record) → isThere client v.server ≡ false → isThere client now ≡ true
-      → moved client v now records ≡ seenAs now records now.joined
+  moved_new : (records : List Record) → is_there client v.server ≡ false → is_there client now ≡ true
+      → moved client v now records ≡ seen_as now records now.joined
   moved_new records f e = rw (f, e)
 
-  moved_on : (records : List Record) → isThere client v.server ≡ true → isThere client now ≡ true
-      → moved client v now records ≡ seenAs now (v.heard ++ records) now.joined
+  moved_on : (records : List Record) → is_there client v.server ≡ true → is_there client now ≡ true
+      → moved client v now records ≡ seen_as now (v.heard ++ records) now.joined
   moved_on records f e = rw (f, e)
 
-pub leavers-keep : LeaversKeep
+pub leavers_keep : LeaversKeep
 unfolding next
-leavers-keep client v a gone =
+leavers_keep client v a gone =
     let now = (outcome a v.server).server in
-    rw (leavers-hear-nothing client v.server a gone, moved-quiet client v now gone) (record { heard = refl; peers = refl })
+    rw (leavers_hear_nothing client v.server a gone, moved_quiet client v now gone) (record { heard = refl; peers = refl })
 
 -- what stays true: with a number of vectors in its range, the records for the client are all in their places
 record Stays (vectors client : ℕ) (v : Seen) : Type 0 where
   same : v.server.vectors ≡ vectors
-  now : isThere client v.server ≡ true → v.peers ≡ v.server.joined
-  told : 1 ≤ vectors → refusal vectors start ≡ 0 → isJoined v.peers client ≡ true
-      → Told vectors v.heard (known 3 client (countsOf vectors v.peers))
+  now : is_there client v.server ≡ true → v.peers ≡ v.server.joined
+  told : 1 ≤ vectors → refusal vectors start ≡ 0 → is_joined v.peers client ≡ true
+      → Told vectors v.heard (known 3 client (counts_of vectors v.peers))
 
 module _ (vectors client : ℕ) (v : Seen) (k : Stays vectors client v) where
   -- where it is there, or was told of it
-  told-now : isThere client v.server ≡ true → 1 ≤ vectors → refusal vectors start ≡ 0
-      → Told vectors v.heard (known 3 client (countsOf vectors v.server.joined))
-  told-now e some good = rw (k.now e) at (k.told some good (rw (k.now e) e))
+  told_now : is_there client v.server ≡ true → 1 ≤ vectors → refusal vectors start ≡ 0
+      → Told vectors v.heard (known 3 client (counts_of vectors v.server.joined))
+  told_now e some good = rw (k.now e) at (k.told some good (rw (k.now e) e))
 
   -- it is there afterwards, and was told all of it
-  stays-there : (now : Server) (heard : List Record) → now.vectors ≡ v.server.vectors → isThere client now ≡ true
-      → (1 ≤ vectors → refusal vectors start ≡ 0 → Told vectors heard (known 3 client (countsOf vectors now.joined)))
-      → Stays vectors client (seenAs now heard now.joined)
-  stays-there now heard e there t =
+  stays_there : (now : Server) (heard : List Record) → now.vectors ≡ v.server.vectors → is_there client now ≡ true
+      → (1 ≤ vectors → refusal vectors start ≡ 0 → Told vectors heard (known 3 client (counts_of vectors now.joined)))
+      → Stays vectors client (seen_as now heard now.joined)
+  stays_there now heard e there t =
       record {
         same = e ∙ k.same;
         now = λ _. refl;
@@ -181,89 +181,89 @@ module _ (vectors client : ℕ) (v : Seen) (k : Stays vectors client v) where
       }
 
   -- it is not, and was told nothing
-  stays-quiet : (now : Server) → now.vectors ≡ v.server.vectors → isThere client now ≡ false
-      → Stays vectors client (seenAs now v.heard v.peers)
-  stays-quiet now e gone =
+  stays_quiet : (now : Server) → now.vectors ≡ v.server.vectors → is_there client now ≡ false
+      → Stays vectors client (seen_as now v.heard v.peers)
+  stays_quiet now e gone =
       record { same = e ∙ k.same; now = λ there. absurd (true≢false (sym there ∙ gone)); told = k.told }
 
-  stays-one : {now : Server} {records : List Record} → Happens client v.server now records
+  stays_one : {now : Server} {records : List Record} → Happens client v.server now records
       → Stays vectors client (moved client v now records)
-  stays-one refused =
-      by_bool (isThere client v.server)
+  stays_one refused =
+      by_bool (is_there client v.server)
       (λ e.
-      rw (moved_on client v v.server [] e e, append-nil v.heard) (stays-there v.server v.heard refl e (told-now e)))
-      (λ e. rw (moved-quiet client v v.server e) (stays-quiet v.server refl e))
-  stays-one (joinsItself h f) =
-      let now = serverOf (joinedWith v.server.joined client) v.server.vectors in
-      let there : isThere client now ≡ true = with-same v.server.joined client h f in
-      let records = toJoiner v.server.vectors (clients v.server.joined) client in
+      rw (moved_on client v v.server [] e e, append-nil v.heard) (stays_there v.server v.heard refl e (told_now e)))
+      (λ e. rw (moved_quiet client v v.server e) (stays_quiet v.server refl e))
+  stays_one (joins_itself h f) =
+      let now = server_of (joined_with v.server.joined client) v.server.vectors in
+      let there : is_there client now ≡ true = with_same v.server.joined client h f in
+      let records = to_joiner v.server.vectors (clients v.server.joined) client in
       rw (moved_new client v now records f there)
-      (stays-there now records refl there
-      (λ some good. rw k.same (told-joiner vectors good v.server.joined client h f)))
-  stays-one (otherJoins id h f o e) =
-      let now = serverOf (joinedWith v.server.joined id) v.server.vectors in
-      let there : isThere client now ≡ true = with-other v.server.joined id h f client o ∙ e in
+      (stays_there now records refl there
+      (λ some good. rw k.same (told_joiner vectors good v.server.joined client h f)))
+  stays_one (other_joins id h f o e) =
+      let now = server_of (joined_with v.server.joined id) v.server.vectors in
+      let there : is_there client now ≡ true = with_other v.server.joined id h f client o ∙ e in
       rw (moved_on client v now (vectors_of v.server.vectors id) e there)
-      (stays-there now (v.heard ++ vectors_of v.server.vectors id) refl there
-      (λ some good. rw k.same (told-join vectors good v.server.joined client id v.heard (told-now e some good) h f)))
-  stays-one (otherLeaves id j o e) =
-      let now = serverOf (joinedWithout v.server.joined id) v.server.vectors in
-      let there : isThere client now ≡ true = without_other v.server.joined id j client o ∙ e in
-      rw (moved_on client v now (hasLeft id ∷ []) e there)
-      (stays-there now (v.heard ++ hasLeft id ∷ []) refl there
+      (stays_there now (v.heard ++ vectors_of v.server.vectors id) refl there
+      (λ some good. rw k.same (told_join vectors good v.server.joined client id v.heard (told_now e some good) h f)))
+  stays_one (other_leaves id j o e) =
+      let now = server_of (joined_without v.server.joined id) v.server.vectors in
+      let there : is_there client now ≡ true = without_other v.server.joined id j client o ∙ e in
+      rw (moved_on client v now (has_left id ∷ []) e there)
+      (stays_there now (v.heard ++ has_left id ∷ []) refl there
       (λ some good.
-      told-leave vectors good v.server.joined client id v.heard (told-now e some good) j (λ same. o (sym same)) some))
-  stays-one (notThere now e gone) = rw (moved-quiet client v now gone) (stays-quiet now e gone)
+      told_leave vectors good v.server.joined client id v.heard (told_now e some good) j (λ same. o (sym same)) some))
+  stays_one (not_there now e gone) = rw (moved_quiet client v now gone) (stays_quiet now e gone)
 
 -- through a history
 module _ (client : ℕ) where
-  stays_all : (vectors : ℕ) (history : List Act) (v : Seen) → Stays vectors client v → Stays vectors client (seenFrom client v history)
-  unfolding seenFrom next
+  stays_all : (vectors : ℕ) (history : List Act) (v : Seen) → Stays vectors client v → Stays vectors client (seen_from client v history)
+  unfolding seen_from next
   stays_all vectors [] v k = k
   stays_all vectors (a ∷ later) v k =
-      stays_all vectors later (next client v (outcome a v.server)) (stays-one vectors client v k (happens client v.server a))
+      stays_all vectors later (next client v (outcome a v.server)) (stays_one vectors client v k (happens client v.server a))
 
   -- one after the other
-  seen-then : (before later : List Act) (v : Seen) → seenFrom client v (before ++ later) ≡ seenFrom client (seenFrom client v before) later
-  unfolding seenFrom
-  seen-then [] later v = refl
-  seen-then (a ∷ before) later v = seen-then before later (next client v (outcome a v.server))
+  seen_then : (before later : List Act) (v : Seen) → seen_from client v (before ++ later) ≡ seen_from client (seen_from client v before) later
+  unfolding seen_from
+  seen_then [] later v = refl
+  seen_then (a ∷ before) later v = seen_then before later (next client v (outcome a v.server))
 
   -- the client stays among its own peers
-  peers-one : (v : Seen) (o : Outcome) → isJoined v.peers client ≡ true → isJoined (next client v o).peers client ≡ true
+  peers_one : (v : Seen) (o : Outcome) → is_joined v.peers client ≡ true → is_joined (next client v o).peers client ≡ true
   unfolding next
-  peers-one v o e = by_bool (isThere client o.server) (λ there. rw there there) (λ gone. rw gone e)
+  peers_one v o e = by_bool (is_there client o.server) (λ there. rw there there) (λ gone. rw gone e)
 
-  peers-all : (later : List Act) (v : Seen) → isJoined v.peers client ≡ true → isJoined (seenFrom client v later).peers client ≡ true
-  unfolding seenFrom
-  peers-all [] v e = e
-  peers-all (a ∷ later) v e = peers-all later (next client v (outcome a v.server)) (peers-one v (outcome a v.server) e)
+  peers_all : (later : List Act) (v : Seen) → is_joined v.peers client ≡ true → is_joined (seen_from client v later).peers client ≡ true
+  unfolding seen_from
+  peers_all [] v e = e
+  peers_all (a ∷ later) v e = peers_all later (next client v (outcome a v.server)) (peers_one v (outcome a v.server) e)
 
   always : (vectors : ℕ) (history : List Act) → Stays (started vectors).server.vectors client (seen vectors client history)
   always vectors history =
-      stays_all (started vectors).server.vectors history (seenAs (started vectors).server [] 0)
-      (record { same = refl; now = λ e. sym (nobody vectors); told = λ some good e. absurd (true≢false (sym e ∙ none-joined client)) })
+      stays_all (started vectors).server.vectors history (seen_as (started vectors).server [] 0)
+      (record { same = refl; now = λ e. sym (nobody vectors); told = λ some good e. absurd (true≢false (sym e ∙ none_joined client)) })
 
-pub peers-are-now : PeersAreNow
-peers-are-now vectors client history e = (always client vectors history).now e
+pub peers_are_now : PeersAreNow
+peers_are_now vectors client history e = (always client vectors history).now e
 
 -- a client that was joined is among its peers, and stays there
-was-joined : (vectors client : ℕ) (before later : List Act) → isThere client (seen vectors client before).server ≡ true
-    → isJoined (seen vectors client (before ++ later)).peers client ≡ true
-was-joined vectors client before later e =
+was_joined : (vectors client : ℕ) (before later : List Act) → is_there client (seen vectors client before).server ≡ true
+    → is_joined (seen vectors client (before ++ later)).peers client ≡ true
+was_joined vectors client before later e =
     let v = seen vectors client before in
-    rw (seen-then client before later (seenAs (started vectors).server [] 0))
-    (peers-all client later v (rw (peers-are-now vectors client before e) e))
+    rw (seen_then client before later (seen_as (started vectors).server [] 0))
+    (peers_all client later v (rw (peers_are_now vectors client before e) e))
 
-pub readers-follow : ReadersFollow
-readers-follow vectors client before later some most e =
-    let good = start-is-good vectors some most in
-    let told = rw (started-vectors vectors some most) at (always client vectors (before ++ later)).told in
-    let t = told some good (was-joined vectors client before later e) in
+pub readers_follow : ReadersFollow
+readers_follow vectors client before later some most e =
+    let good = start_is_good vectors some most in
+    let told = rw (started_vectors vectors some most) at (always client vectors (before ++ later)).told in
+    let t = told some good (was_joined vectors client before later e) in
     record {
       messages = t.messages;
       one = t.one;
       plain = t.plain;
-      cut = λ pieces whole. pieces-are-bytes vectors pieces start refl good ∙ rw whole t.there;
-      calls = rw t.there at (every-stream-is-read vectors start (stream (seen vectors client (before ++ later)).heard) good);
+      cut = λ pieces whole. pieces_are_bytes vectors pieces start refl good ∙ rw whole t.there;
+      calls = rw t.there at (every_stream_is_read vectors start (stream (seen vectors client (before ++ later)).heard) good);
     }

@@ -6,53 +6,53 @@ use native.Mathlib.Omega.{arith}
 use native.Mathlib.Numerals.{add-one}
 use native.Mathlib.Nat.{mul-suc}
 use lib.ListN.{length, replicate, length-append}
-use Rattle.server.specs.Messages.{eachOf}
+use Rattle.server.specs.Messages.{each_of}
 
 module _ {A B : Type 0} (f : A → List B) where
-  pub each_append : (xs ys : List A) → eachOf f (xs ++ ys) ≡ eachOf f xs ++ eachOf f ys
-  unfolding eachOf
+  pub each_append : (xs ys : List A) → each_of f (xs ++ ys) ≡ each_of f xs ++ each_of f ys
+  unfolding each_of
   each_append [] ys = refl
-  each_append (x ∷ xs) ys = rw (each_append xs ys) (sym (append_assoc (f x) (eachOf f xs) (eachOf f ys)))
+  each_append (x ∷ xs) ys = rw (each_append xs ys) (sym (append_assoc (f x) (each_of f xs) (each_of f ys)))
 
-  pub each-one : (x : A) → eachOf f (x ∷ []) ≡ f x
-  unfolding eachOf
-  each-one x = append-nil (f x)
+  pub each_one : (x : A) → each_of f (x ∷ []) ≡ f x
+  unfolding each_of
+  each_one x = append-nil (f x)
 
   -- once more
-  each-suc : (n : ℕ) (x : A) → eachOf f (replicate (suc n) x) ≡ eachOf f (replicate n x) ++ f x
-  unfolding eachOf
-  each-suc zero x = append-nil (f x)
-  each-suc (suc n) x = ap (λ (l : List B). f x ++ l) (each-suc n x) ∙ sym (append_assoc (f x) (eachOf f (replicate n x)) (f x))
+  each_suc : (n : ℕ) (x : A) → each_of f (replicate (suc n) x) ≡ each_of f (replicate n x) ++ f x
+  unfolding each_of
+  each_suc zero x = append-nil (f x)
+  each_suc (suc n) x = ap (λ (l : List B). f x ++ l) (each_suc n x) ∙ sym (append_assoc (f x) (each_of f (replicate n x)) (f x))
 
-  pub each_more : (n : ℕ) (x : A) → eachOf f (replicate (n + 1) x) ≡ eachOf f (replicate n x) ++ f x
-  each_more n x = rw (add-one n) (each-suc n x)
+  pub each_more : (n : ℕ) (x : A) → each_of f (replicate (n + 1) x) ≡ each_of f (replicate n x) ++ f x
+  each_more n x = rw (add-one n) (each_suc n x)
 
-  pub each_same : (g : A → List B) → ((x : A) → f x ≡ g x) → (xs : List A) → eachOf f xs ≡ eachOf g xs
-  unfolding eachOf
+  pub each_same : (g : A → List B) → ((x : A) → f x ≡ g x) → (xs : List A) → each_of f xs ≡ each_of g xs
+  unfolding each_of
   each_same g same [] = refl
   each_same g same (x ∷ xs) = rw (same x, each_same g same xs)
 
   -- as long as there are elements, where each has as much
-  pub each-length : (k : ℕ) → ((x : A) → length (f x) ≡ k) → (xs : List A) → length (eachOf f xs) ≡ k * length xs
-  unfolding eachOf
-  each-length k same [] = omega arith
-  each-length k same (x ∷ xs) =
-      rw (length-append (f x) (eachOf f xs), same x, each-length k same xs, mul-suc k (length xs)) (omega arith)
+  pub each_length : (k : ℕ) → ((x : A) → length (f x) ≡ k) → (xs : List A) → length (each_of f xs) ≡ k * length xs
+  unfolding each_of
+  each_length k same [] = omega arith
+  each_length k same (x ∷ xs) =
+      rw (length-append (f x) (each_of f xs), same x, each_length k same xs, mul-suc k (length xs)) (omega arith)
 
 -- one after the other
 module _ {A B C : Type 0} (f : B → List C) where
-  pub each_map : (g : A → B) (xs : List A) → eachOf f (map g xs) ≡ eachOf (λ x. f (g x)) xs
-  unfolding eachOf
+  pub each_map : (g : A → B) (xs : List A) → each_of f (map g xs) ≡ each_of (λ x. f (g x)) xs
+  unfolding each_of
   each_map g [] = refl
   each_map g (x ∷ xs) = rw (each_map g xs)
 
-  pub each-each : (g : A → List B) (xs : List A) → eachOf f (eachOf g xs) ≡ eachOf (λ x. eachOf f (g x)) xs
-  unfolding eachOf
-  each-each g [] = refl
-  each-each g (x ∷ xs) = rw (each_append f (g x) (eachOf g xs), each-each g xs)
+  pub each_each : (g : A → List B) (xs : List A) → each_of f (each_of g xs) ≡ each_of (λ x. each_of f (g x)) xs
+  unfolding each_of
+  each_each g [] = refl
+  each_each g (x ∷ xs) = rw (each_append f (g x) (each_of g xs), each_each g xs)
 
   -- what is alike for one element is alike for as many of it
-  pub each-alike : (g : A → List C) (x : B) (y : A) → f x ≡ g y → (n : ℕ) → eachOf f (replicate n x) ≡ eachOf g (replicate n y)
-  unfolding eachOf
-  each-alike g x y e zero = refl
-  each-alike g x y e (suc n) = rw (e, each-alike g x y e n)
+  pub each_alike : (g : A → List C) (x : B) (y : A) → f x ≡ g y → (n : ℕ) → each_of f (replicate n x) ≡ each_of g (replicate n y)
+  unfolding each_of
+  each_alike g x y e zero = refl
+  each_alike g x y e (suc n) = rw (e, each_alike g x y e n)

@@ -8,113 +8,113 @@ use lib.IntN.{pos}
 use lib.ListN.{length, replicate}
 use lib.Seq.{take_at, drop-append-add}
 use Rattle.common.specs.Bytes.{bytes}
-use Rattle.reader.proofs.SizeLaws.{ids-byte}
-use Rattle.reader.specs.Records.{Record, recordOf}
+use Rattle.reader.proofs.SizeLaws.{ids_byte}
+use Rattle.reader.specs.Records.{Record, record_of}
 use Rattle.reader.specs.Sizes.{ids}
-use Rattle.server.proofs.FreeLaws.{each-joined}
-use Rattle.server.proofs.JoinedLaws.{joined-below}
-use Rattle.server.proofs.ListLaws.{each_append, each_map, each-each, each-alike, each_same, each-length}
+use Rattle.server.proofs.FreeLaws.{each_joined}
+use Rattle.server.proofs.JoinedLaws.{joined_below_lem}
+use Rattle.server.proofs.ListLaws.{each_append, each_map, each_each, each_alike, each_same, each_length}
 use Rattle.server.specs.Clients.{clients}
-use Rattle.server.specs.Messages.{Sent, to, allTo, eachOf, memory, vectorOf, vectors_of, hasLeft, toJoiner, toOthers}
-use Rattle.server.specs.Messages.{joinMessages, leaveMessages, unsigned, bytes_of, sentBytes, all_bytes, MessagesStandInTens}
-use Rattle.server.specs.Parts.{messageOf, written, writtenTimes, noticeOf, noticeTo, noticeBytes, noticesBytes, startBytes, joinBytes}
+use Rattle.server.specs.Messages.{Sent, to, all_to, each_of, memory, vector_of, vectors_of, has_left, to_joiner, to_others}
+use Rattle.server.specs.Messages.{join_messages, leave_messages, unsigned, bytes_of, sent_bytes, all_bytes, MessagesStandInTens}
+use Rattle.server.specs.Parts.{message_of, written, written_times, notice_of, notice_to, notice_bytes, notices_bytes, start_bytes, join_bytes}
 
 -- a small number, and -1
 small_bytes : (n : ℕ) → n < 256 → bytes 8 n ≡ n ∷ replicate 7 0
 unfolding bytes
 small_bytes n h = let low : n % 256 ≡ n = omega arith in let high : n / 256 ≡ 0 = omega arith in rw (low, high)
 
-pub sent-small : (client kind n : ℕ) → n < 256 → sentBytes (to client (recordOf kind (pos n))) ≡ written (messageOf client kind n 0)
-unfolding sentBytes bytes_of unsigned
-sent-small client kind n h = rw (small_bytes n h)
+pub sent_small : (client kind n : ℕ) → n < 256 → sent_bytes (to client (record_of kind (pos n))) ≡ written (message_of client kind n 0)
+unfolding sent_bytes bytes_of unsigned
+sent_small client kind n h = rw (small_bytes n h)
 
-pub sent-memory : (client : ℕ) → sentBytes (to client memory) ≡ written (messageOf client 1 255 255)
-unfolding sentBytes bytes_of unsigned bytes
-sent-memory client = refl
+pub sent_memory : (client : ℕ) → sent_bytes (to client memory) ≡ written (message_of client 1 255 255)
+unfolding sent_bytes bytes_of unsigned bytes
+sent_memory client = refl
 
 -- each of the ten bytes
-pub sent-ten : (m : Sent) → length (sentBytes m) ≡ 10
-unfolding sentBytes bytes_of bytes
-sent-ten m = refl
+pub sent_ten : (m : Sent) → length (sent_bytes m) ≡ 10
+unfolding sent_bytes bytes_of bytes
+sent_ten m = refl
 
-pub all-length : (sent : List Sent) → length (all_bytes sent) ≡ 10 * length sent
+pub all_length : (sent : List Sent) → length (all_bytes sent) ≡ 10 * length sent
 unfolding all_bytes
-all-length sent = each-length sentBytes 10 sent-ten sent
+all_length sent = each_length sent_bytes 10 sent_ten sent
 
 all_append : (xs ys : List Sent) → all_bytes (xs ++ ys) ≡ all_bytes xs ++ all_bytes ys
 unfolding all_bytes
-all_append xs ys = each_append sentBytes xs ys
+all_append xs ys = each_append sent_bytes xs ys
 
-pub messages-stand-in-tens : MessagesStandInTens
-unfolding all_bytes eachOf
-messages-stand-in-tens [] k m h = absurd (omega arith)
-messages-stand-in-tens (x ∷ sent) zero m h = take_at (sentBytes x) (all_bytes sent) 10 (sent-ten x)
-messages-stand-in-tens (x ∷ sent) (suc k) m h =
-    let n : 10 * suc k ≡ length (sentBytes x) + 10 * k = rw (sent-ten x) (omega arith) in
-    rw (n, drop-append-add (sentBytes x) (all_bytes sent) (10 * k)) (messages-stand-in-tens sent k m (omega arith))
+pub messages_stand_in_tens : MessagesStandInTens
+unfolding all_bytes each_of
+messages_stand_in_tens [] k m h = absurd (omega arith)
+messages_stand_in_tens (x ∷ sent) zero m h = take_at (sent_bytes x) (all_bytes sent) 10 (sent_ten x)
+messages_stand_in_tens (x ∷ sent) (suc k) m h =
+    let n : 10 * suc k ≡ length (sent_bytes x) + 10 * k = rw (sent_ten x) (omega arith) in
+    rw (n, drop-append-add (sent_bytes x) (all_bytes sent) (10 * k)) (messages_stand_in_tens sent k m (omega arith))
 
 -- the vectors of an id for a client, one notice of two
 module _ (vectors id : ℕ) (h : id < 256) where
-  vectors-to : (client : ℕ) → eachOf sentBytes (allTo client (vectors_of vectors id)) ≡ writtenTimes vectors (messageOf client 1 id 0)
-  vectors-to client =
-      each_map sentBytes (to client) (vectors_of vectors id)
-      ∙ each-alike (λ r. sentBytes (to client r)) written (vectorOf id) (messageOf client 1 id 0) (sent-small client 1 id h) vectors
+  vectors_to : (client : ℕ) → each_of sent_bytes (all_to client (vectors_of vectors id)) ≡ written_times vectors (message_of client 1 id 0)
+  vectors_to client =
+      each_map sent_bytes (to client) (vectors_of vectors id)
+      ∙ each_alike (λ r. sent_bytes (to client r)) written (vector_of id) (message_of client 1 id 0) (sent_small client 1 id h) vectors
 
-  others-bytes : (others : List ℕ) → all_bytes (toOthers vectors others id) ≡ noticesBytes (noticeOf 1 id vectors false) others
-  unfolding all_bytes toOthers noticeTo
-  others-bytes others =
-      each-each sentBytes (λ other. allTo other (vectors_of vectors id)) others
-      ∙ each_same (λ other. eachOf sentBytes (allTo other (vectors_of vectors id))) (noticeBytes (noticeOf 1 id vectors false)) vectors-to
+  others_bytes : (others : List ℕ) → all_bytes (to_others vectors others id) ≡ notices_bytes (notice_of 1 id vectors false) others
+  unfolding all_bytes to_others notice_to
+  others_bytes others =
+      each_each sent_bytes (λ other. all_to other (vectors_of vectors id)) others
+      ∙ each_same (λ other. each_of sent_bytes (all_to other (vectors_of vectors id))) (notice_bytes (notice_of 1 id vectors false)) vectors_to
       others
 
 -- a record for the joiner
-abbrev toOne : ℕ → Record → List ℕ
-toOne id r = sentBytes (to id r)
+abbrev to_one : ℕ → Record → List ℕ
+to_one id r = sent_bytes (to id r)
 
 module _ (vectors joined id : ℕ) (h : id < ids) where
   small : id < 256
-  small = omega (arith, ids-byte)
+  small = omega (arith, ids_byte)
 
   -- the vectors of the others, for the joiner
-  known_bytes : eachOf (toOne id) (eachOf (vectors_of vectors) (clients joined)) ≡ noticesBytes (noticeOf 1 id vectors true) (clients joined)
-  unfolding noticeTo
+  known_bytes : each_of (to_one id) (each_of (vectors_of vectors) (clients joined)) ≡ notices_bytes (notice_of 1 id vectors true) (clients joined)
+  unfolding notice_to
   known_bytes =
-      each-each (toOne id) (vectors_of vectors) (clients joined)
-      ∙ each-joined joined (λ other. eachOf (toOne id) (vectors_of vectors other)) (noticeBytes (noticeOf 1 id vectors true))
+      each_each (to_one id) (vectors_of vectors) (clients joined)
+      ∙ each_joined joined (λ other. each_of (to_one id) (vectors_of vectors other)) (notice_bytes (notice_of 1 id vectors true))
       (λ other e.
-      each-alike (toOne id) written (vectorOf other) (messageOf id 1 other 0)
-      (sent-small id 1 other (omega (arith, ids-byte, joined-below joined other e))) vectors) ids
+      each_alike (to_one id) written (vector_of other) (message_of id 1 other 0)
+      (sent_small id 1 other (omega (arith, ids_byte, joined_below_lem joined other e))) vectors) ids
 
-  own-bytes : eachOf (toOne id) (vectors_of vectors id) ≡ writtenTimes vectors (messageOf id 1 id 0)
-  own-bytes = each-alike (toOne id) written (vectorOf id) (messageOf id 1 id 0) (sent-small id 1 id small) vectors
+  own_bytes : each_of (to_one id) (vectors_of vectors id) ≡ written_times vectors (message_of id 1 id 0)
+  own_bytes = each_alike (to_one id) written (vector_of id) (message_of id 1 id 0) (sent_small id 1 id small) vectors
 
-  joiner-bytes : all_bytes (allTo id (toJoiner vectors (clients joined) id))
-      ≡ startBytes id ++ noticesBytes (noticeOf 1 id vectors true) (clients joined) ++ writtenTimes vectors (messageOf id 1 id 0)
-  unfolding all_bytes toJoiner eachOf
-  joiner-bytes =
-      each_map sentBytes (to id) (toJoiner vectors (clients joined) id)
+  joiner_bytes : all_bytes (all_to id (to_joiner vectors (clients joined) id))
+      ≡ start_bytes id ++ notices_bytes (notice_of 1 id vectors true) (clients joined) ++ written_times vectors (message_of id 1 id 0)
+  unfolding all_bytes to_joiner each_of
+  joiner_bytes =
+      each_map sent_bytes (to id) (to_joiner vectors (clients joined) id)
       ∙ rw (
-        sent-small id 0 0 (omega arith),
-        sent-small id 0 id small,
-        sent-memory id,
-        each_append (toOne id) (eachOf (vectors_of vectors) (clients joined)) (vectors_of vectors id),
+        sent_small id 0 0 (omega arith),
+        sent_small id 0 id small,
+        sent_memory id,
+        each_append (to_one id) (each_of (vectors_of vectors) (clients joined)) (vectors_of vectors id),
         known_bytes,
-        own-bytes,
+        own_bytes,
       )
 
-  pub join-bytes : all_bytes (joinMessages vectors (clients joined) id) ≡ joinBytes joined id vectors
-  unfolding joinMessages
-  join-bytes =
-      all_append (allTo id (toJoiner vectors (clients joined) id)) (toOthers vectors (clients joined) id)
-      ∙ rw (joiner-bytes, others-bytes vectors id small (clients joined))
+  pub join_bytes_lem : all_bytes (join_messages vectors (clients joined) id) ≡ join_bytes joined id vectors
+  unfolding join_messages
+  join_bytes_lem =
+      all_append (all_to id (to_joiner vectors (clients joined) id)) (to_others vectors (clients joined) id)
+      ∙ rw (joiner_bytes, others_bytes vectors id small (clients joined))
 
 -- who left, for each that stays
-pub leave-bytes : (joined id : ℕ) → id < ids
-    → all_bytes (leaveMessages (clients joined) id) ≡ noticesBytes (noticeOf 0 id 1 false) (clients joined)
-unfolding all_bytes leaveMessages noticeTo
-leave-bytes joined id h =
-    each-each sentBytes (λ other. to other (hasLeft id) ∷ []) (clients joined)
-    ∙ each_same (λ other. eachOf sentBytes (to other (hasLeft id) ∷ [])) (noticeBytes (noticeOf 0 id 1 false))
+pub leave_bytes : (joined id : ℕ) → id < ids
+    → all_bytes (leave_messages (clients joined) id) ≡ notices_bytes (notice_of 0 id 1 false) (clients joined)
+unfolding all_bytes leave_messages notice_to
+leave_bytes joined id h =
+    each_each sent_bytes (λ other. to other (has_left id) ∷ []) (clients joined)
+    ∙ each_same (λ other. each_of sent_bytes (to other (has_left id) ∷ [])) (notice_bytes (notice_of 0 id 1 false))
     (λ other.
-    each-alike sentBytes written (to other (hasLeft id)) (messageOf other 0 id 0) (sent-small other 0 id (omega (arith, ids-byte))) 1)
+    each_alike sent_bytes written (to other (has_left id)) (message_of other 0 id 0) (sent_small other 0 id (omega (arith, ids_byte))) 1)
     (clients joined)

@@ -10,88 +10,88 @@ use lib.ListN.{length, replicate, length-append, length-replicate}
 use lib.Dec.{leb}
 use borrow.Author.Tests.{leb-true}
 use Rattle.common.proofs.TestLaws.{and_right, by_equal}
-use Rattle.reader.proofs.SizeLaws.{mostVectors-pos}
-use Rattle.reader.specs.Sizes.{ids, mostVectors}
+use Rattle.reader.proofs.SizeLaws.{most_vectors_pos}
+use Rattle.reader.specs.Sizes.{ids, most_vectors}
 use Rattle.server.specs.declared.messages.Message.{Message}
 use Rattle.server.specs.declared.notices.Notice.{Notice}
-use Rattle.server.proofs.FreeLaws.{at_joined, at-free, below_next, clients-fewer}
-use Rattle.server.proofs.ListLaws.{each_append, each-one, each-length}
-use Rattle.server.specs.Clients.{isJoined, joinedAt, joinedBelow, clients}
-use Rattle.server.specs.Messages.{eachOf, mostSent, bufferBytes}
-use Rattle.server.specs.Parts.{messageOf, written, writtenTimes, noticeOf, noticeTo, noticeBytes, noticesBytes, joinBytes}
+use Rattle.server.proofs.FreeLaws.{at_joined, at_free, below_next, clients_fewer}
+use Rattle.server.proofs.ListLaws.{each_append, each_one, each_length}
+use Rattle.server.specs.Clients.{is_joined, joined_at, joined_below, clients}
+use Rattle.server.specs.Messages.{each_of, most_sent, buffer_bytes}
+use Rattle.server.specs.Parts.{message_of, written, written_times, notice_of, notice_to, notice_bytes, notices_bytes, join_bytes}
 use Rattle.server.specs.Serving.{in_range}
 
-pub times-length : (n : ℕ) (m : Message) → length (writtenTimes n m) ≡ 10 * n
-times-length n m = each-length written 10 (λ m. refl) (replicate n m) ∙ rw (length-replicate n m)
+pub times_length : (n : ℕ) (m : Message) → length (written_times n m) ≡ 10 * n
+times_length n m = each_length written 10 (λ m. refl) (replicate n m) ∙ rw (length-replicate n m)
 
-pub notices-length : (n : Notice) (to : List ℕ) → length (noticesBytes n to) ≡ 10 * (n.times * length to)
-notices-length n to =
-    each-length (noticeBytes n) (10 * n.times) (λ client. times-length n.times _) to ∙ mul_assoc 10 n.times (length to)
+pub notices_length : (n : Notice) (to : List ℕ) → length (notices_bytes n to) ≡ 10 * (n.times * length to)
+notices_length n to =
+    each_length (notice_bytes n) (10 * n.times) (λ client. times_length n.times _) to ∙ mul_assoc 10 n.times (length to)
 
 -- the number of vectors that is in its range
-pub vectors-few : (vectors : ℕ) → in_range vectors ≡ true → vectors ≤ mostVectors
+pub vectors_few : (vectors : ℕ) → in_range vectors ≡ true → vectors ≤ most_vectors
 unfolding in_range
-vectors-few vectors e = leb-true vectors mostVectors (and_right (leb 1 vectors) (leb vectors mostVectors) e)
+vectors_few vectors e = leb-true vectors most_vectors (and_right (leb 1 vectors) (leb vectors most_vectors) e)
 
 -- the four parts of a join
-pub join-length : (joined id vectors : ℕ)
-    → length (joinBytes joined id vectors)
+pub join_length : (joined id vectors : ℕ)
+    → length (join_bytes joined id vectors)
     ≡ 30
-    + length (noticesBytes (noticeOf 1 id vectors true) (clients joined))
+    + length (notices_bytes (notice_of 1 id vectors true) (clients joined))
     + 10 * vectors
-    + length (noticesBytes (noticeOf 1 id vectors false) (clients joined))
-join-length joined id vectors = rw (length-append, length-append, length-append, times-length vectors (messageOf id 1 id 0))
+    + length (notices_bytes (notice_of 1 id vectors false) (clients joined))
+join_length joined id vectors = rw (length-append, length-append, length-append, times_length vectors (message_of id 1 id 0))
 
-module _ (joined id vectors : ℕ) (h : id < ids) (free : isJoined joined id ≡ false) (range : in_range vectors ≡ true) where
-  pub join-room : length (joinBytes joined id vectors) ≤ bufferBytes
-  unfolding bufferBytes mostSent
-  join-room =
-      let most : vectors * length (clients joined) ≤ mostVectors * (ids - 1) =
-      mul-le-mul (vectors-few vectors range) (clients-fewer joined id h free) in
+module _ (joined id vectors : ℕ) (h : id < ids) (free : is_joined joined id ≡ false) (range : in_range vectors ≡ true) where
+  pub join_room : length (join_bytes joined id vectors) ≤ buffer_bytes
+  unfolding buffer_bytes most_sent
+  join_room =
+      let most : vectors * length (clients joined) ≤ most_vectors * (ids - 1) =
+      mul-le-mul (vectors_few vectors range) (clients_fewer joined id h free) in
       rw (
-        join-length joined id vectors,
-        notices-length (noticeOf 1 id vectors true) (clients joined),
-        notices-length (noticeOf 1 id vectors false) (clients joined),
-      ) (omega (arith, vectors-few vectors range))
+        join_length joined id vectors,
+        notices_length (notice_of 1 id vectors true) (clients joined),
+        notices_length (notice_of 1 id vectors false) (clients joined),
+      ) (omega (arith, vectors_few vectors range))
 
-pub leave_room : (joined id : ℕ) → id < ids → isJoined joined id ≡ false
-    → length (noticesBytes (noticeOf 0 id 1 false) (clients joined)) ≤ bufferBytes
-unfolding bufferBytes mostSent
+pub leave_room : (joined id : ℕ) → id < ids → is_joined joined id ≡ false
+    → length (notices_bytes (notice_of 0 id 1 false) (clients joined)) ≤ buffer_bytes
+unfolding buffer_bytes most_sent
 leave_room joined id h free =
-    let most : 1 * length (clients joined) ≤ mostVectors * (ids - 1) = mul-le-mul mostVectors-pos (clients-fewer joined id h free) in
-    rw (notices-length (noticeOf 0 id 1 false) (clients joined)) (omega arith)
+    let most : 1 * length (clients joined) ≤ most_vectors * (ids - 1) = mul-le-mul most_vectors_pos (clients_fewer joined id h free) in
+    rw (notices_length (notice_of 0 id 1 false) (clients joined)) (omega arith)
 
 -- a notice, client after client
 module _ (n : Notice) (joined : ℕ) where
-  pub notice-one : (client : ℕ) → isJoined joined client ≡ true → noticesBytes n (joinedAt joined client) ≡ noticeBytes n client
-  notice-one client e = rw (at_joined joined client e) (each-one (noticeBytes n) client)
+  pub notice_one : (client : ℕ) → is_joined joined client ≡ true → notices_bytes n (joined_at joined client) ≡ notice_bytes n client
+  notice_one client e = rw (at_joined joined client e) (each_one (notice_bytes n) client)
 
-  pub notice-one-length : (client : ℕ) → isJoined joined client ≡ true → length (noticesBytes n (joinedAt joined client)) ≡ 10 * n.times
-  notice-one-length client e = rw (notice-one client e) (times-length n.times (noticeTo n client))
+  pub notice_one_length : (client : ℕ) → is_joined joined client ≡ true → length (notices_bytes n (joined_at joined client)) ≡ 10 * n.times
+  notice_one_length client e = rw (notice_one client e) (times_length n.times (notice_to n client))
 
-  pub notice-none : (client : ℕ) → isJoined joined client ≡ false → noticesBytes n (joinedAt joined client) ≡ []
-  unfolding eachOf
-  notice-none client e = rw (at-free joined client e)
+  pub notice_none : (client : ℕ) → is_joined joined client ≡ false → notices_bytes n (joined_at joined client) ≡ []
+  unfolding each_of
+  notice_none client e = rw (at_free joined client e)
 
-  pub notices-next : (k : ℕ)
-      → noticesBytes n (joinedBelow (k + 1) joined) ≡ noticesBytes n (joinedBelow k joined) ++ noticesBytes n (joinedAt joined k)
-  notices-next k = rw (add-one k, below_next joined k) (each_append (noticeBytes n) (joinedBelow k joined) (joinedAt joined k))
+  pub notices_next : (k : ℕ)
+      → notices_bytes n (joined_below (k + 1) joined) ≡ notices_bytes n (joined_below k joined) ++ notices_bytes n (joined_at joined k)
+  notices_next k = rw (add-one k, below_next joined k) (each_append (notice_bytes n) (joined_below k joined) (joined_at joined k))
 
   -- there is room for the next one
-  within : (k m : ℕ) → k ≤ m → length (noticesBytes n (joinedBelow k joined)) ≤ length (noticesBytes n (joinedBelow m joined))
+  within : (k m : ℕ) → k ≤ m → length (notices_bytes n (joined_below k joined)) ≤ length (notices_bytes n (joined_below m joined))
   within k zero l = let e : k ≡ 0 = omega arith in rw e (omega arith)
   within k (suc m) l =
       by_equal k (suc m) (λ e. rw e (omega arith))
       (λ o.
-      let more : length (noticesBytes n (joinedBelow (suc m) joined))
-      ≡ length (noticesBytes n (joinedBelow m joined)) + length (noticesBytes n (joinedAt joined m)) =
+      let more : length (notices_bytes n (joined_below (suc m) joined))
+      ≡ length (notices_bytes n (joined_below m joined)) + length (notices_bytes n (joined_at joined m)) =
       rw (← add-one m)
-      (ap length (notices-next m) ∙ length-append (noticesBytes n (joinedBelow m joined)) (noticesBytes n (joinedAt joined m))) in
+      (ap length (notices_next m) ∙ length-append (notices_bytes n (joined_below m joined)) (notices_bytes n (joined_at joined m))) in
       omega (arith, within k m (omega arith)))
 
-  pub notices-room : (k : ℕ) → k < ids
-      → length (noticesBytes n (joinedBelow k joined)) + length (noticesBytes n (joinedAt joined k))
-      ≤ length (noticesBytes n (clients joined))
-  notices-room k l =
-      rw (length-append (noticesBytes n (joinedBelow k joined)) (noticesBytes n (joinedAt joined k))) at
-      (rw (notices-next k) at (within (k + 1) ids (omega arith)))
+  pub notices_room : (k : ℕ) → k < ids
+      → length (notices_bytes n (joined_below k joined)) + length (notices_bytes n (joined_at joined k))
+      ≤ length (notices_bytes n (clients joined))
+  notices_room k l =
+      rw (length-append (notices_bytes n (joined_below k joined)) (notices_bytes n (joined_at joined k))) at
+      (rw (notices_next k) at (within (k + 1) ids (omega arith)))

@@ -3,7 +3,7 @@
 use Rattle.std.specs.Prelude.{ℕ, ◌<◌, ◌^◌, List, [], ◌∷◌, ◌≡◌}
 use Rattle.server.specs.declared.Server.{Server}
 use Rattle.server.specs.Histories.{Act, outcome}
-use Rattle.server.specs.Messages.{bufferBytes}
+use Rattle.server.specs.Messages.{buffer_bytes}
 use Rattle.server.specs.Serving.{started, refusal}
 
 -- call after call
@@ -20,11 +20,11 @@ pub record Reaches (s : Server) : Type 0 where
 
 -- Every state that is not refused, in a buffer with room, is reached, whatever its 64 bits are;
 abbrev pub EveryStateIsReached : Type 0
-EveryStateIsReached = (s : Server) → refusal s bufferBytes ≡ 0 → s.joined < 2 ^ 64 → Reaches s
+EveryStateIsReached = (s : Server) → refusal s buffer_bytes ≡ 0 → s.joined < 2 ^ 64 → Reaches s
 
 -- and what is reached is not refused, and has 64 bits.
 abbrev pub ReachedIsAccepted : Type 0
-ReachedIsAccepted = (s : Server) → Reaches s → (refusal s bufferBytes ≡ 0) × (s.joined < 2 ^ 64)
+ReachedIsAccepted = (s : Server) → Reaches s → (refusal s buffer_bytes ≡ 0) × (s.joined < 2 ^ 64)
 
 -- No call changes the number of vectors.
 abbrev pub VectorsAreFixed : Type 0

@@ -1,14 +1,14 @@
 // The ids that are joined, as bits of one number.
 ghost use Rattle.std.specs.Prelude.{◌≡◌, ◌+◌, ◌<◌, true, false};
 ghost use Rattle.reader.specs.Sizes.{ids};
-ghost use Rattle.server.specs.Clients.{isJoined, lowestFree, joinedWith, joinedWithout};
+ghost use Rattle.server.specs.Clients.{is_joined, lowest_free, joined_with, joined_without};
 ghost use Rattle.server.specs.Parts.{any_from};
 
 // The ids are those below this number.
 pub const IDS: u64 = 64;
 
 pub fn is_joined(joined: u64, id: u64) -> bool
-    ensures { result ≡ isJoined joined id }
+    ensures { result ≡ is_joined joined id }
 {
     if id >= IDS {
         return false;
@@ -28,7 +28,7 @@ pub fn any_from(joined: u64, id: u64) -> bool
 
 // The lowest id that is free; where none is, the number of ids.
 pub fn lowest_free(joined: u64) -> u64
-    ensures { result ≡ lowestFree joined }
+    ensures { result ≡ lowest_free joined }
 {
     let mut id = 0;
     while is_joined(joined, id) {
@@ -39,16 +39,16 @@ pub fn lowest_free(joined: u64) -> u64
 
 // With one id more, which was free.
 pub fn with(joined: u64, id: u64) -> u64
-    requires { (id < ids) × (isJoined joined id ≡ false) }
-    ensures { result ≡ joinedWith joined id }
+    requires { (id < ids) × (is_joined joined id ≡ false) }
+    ensures { result ≡ joined_with joined id }
 {
     joined + (1 << id)
 }
 
 // Without one that was joined.
 pub fn without(joined: u64, id: u64) -> u64
-    requires { isJoined joined id ≡ true }
-    ensures { result ≡ joinedWithout joined id }
+    requires { is_joined joined id ≡ true }
+    ensures { result ≡ joined_without joined id }
 {
     joined - (1 << id)
 }

@@ -7,10 +7,10 @@ mod notices;
 ghost use Rattle.std.specs.Prelude.{◌≡◌, ◌*◌, ◌≤◌, ◌<◌, true, false, length};
 ghost use Rattle.std.proofs.lemmas.List.Edits.{sets};
 ghost use Rattle.reader.specs.Sizes.{ids};
-ghost use Rattle.server.specs.Clients.{isJoined};
-ghost use Rattle.server.specs.Messages.{bufferBytes};
-ghost use Rattle.server.specs.Parts.{startBytes, joinBytes};
-ghost use Rattle.server.specs.Serving.{in_range, started, refusal, refusedBy, answer_of, joinAs, leaveAs, join, leave, Serves};
+ghost use Rattle.server.specs.Clients.{is_joined};
+ghost use Rattle.server.specs.Messages.{buffer_bytes};
+ghost use Rattle.server.specs.Parts.{start_bytes, join_bytes};
+ghost use Rattle.server.specs.Serving.{in_range, started, refusal, refused_by, answer_of, join_as, leave_as, join, leave, Serves};
 
 use messages::Message;
 use notices::Notice;
@@ -84,7 +84,7 @@ fn refusal(server: Server, room: usize) -> u32
 
 // Nothing is written.
 fn refused(number: u32, server: Server) -> Served
-    ensures { result ≡ answer_of (refusedBy number server) }
+    ensures { result ≡ answer_of (refused_by number server) }
 {
     Served {
         number,
@@ -97,7 +97,7 @@ fn refused(number: u32, server: Server) -> Served
 // The version, the joiner's own id, and the memory.
 fn put_start(out: &mut [u8], id: u8)
     requires { 30 ≤ length out.old }
-    ensures { out.new ≡ sets out.old 0 (startBytes id) }
+    ensures { out.new ≡ sets out.old 0 (start_bytes id) }
 {
     let version = Message {
         client: id,
@@ -124,8 +124,8 @@ fn put_start(out: &mut [u8], id: u8)
 
 // All messages of a join, and their number.
 fn put_join(out: &mut [u8], joined: u64, id: u8, vectors: usize) -> usize
-    requires { length (joinBytes joined id vectors) ≤ length out.old }
-    ensures { (out.new ≡ sets out.old 0 (joinBytes joined id vectors)) × (10 * result ≡ length (joinBytes joined id vectors)) }
+    requires { length (join_bytes joined id vectors) ≤ length out.old }
+    ensures { (out.new ≡ sets out.old 0 (join_bytes joined id vectors)) × (10 * result ≡ length (join_bytes joined id vectors)) }
 {
     let known = Notice {
         kind: 1,
@@ -153,8 +153,8 @@ fn put_join(out: &mut [u8], joined: u64, id: u8, vectors: usize) -> usize
 
 // A join with an id that is free.
 fn join_as(server: Server, id: u64, out: &mut [u8]) -> Served
-    requires { (in_range server.vectors ≡ true) × (id < ids) × (isJoined server.joined id ≡ false) × (bufferBytes ≤ length out.old) }
-    ensures { Serves (joinAs server id) out.old out.new result }
+    requires { (in_range server.vectors ≡ true) × (id < ids) × (is_joined server.joined id ≡ false) × (buffer_bytes ≤ length out.old) }
+    ensures { Serves (join_as server id) out.old out.new result }
 {
     let messages = put_join(out, server.joined, id as u8, server.vectors as usize);
     let next = Server {
@@ -171,8 +171,8 @@ fn join_as(server: Server, id: u64, out: &mut [u8]) -> Served
 
 // The leave of an id that is joined.
 fn leave_as(server: Server, id: u64, out: &mut [u8]) -> Served
-    requires { (isJoined server.joined id ≡ true) × (bufferBytes ≤ length out.old) }
-    ensures { Serves (leaveAs server id) out.old out.new result }
+    requires { (is_joined server.joined id ≡ true) × (buffer_bytes ≤ length out.old) }
+    ensures { Serves (leave_as server id) out.old out.new result }
 {
     let joined = clients::without(server.joined, id);
     let left = Notice {

@@ -1,7 +1,7 @@
 // Messages in the lent buffer: one byte of client id, and a record of nine.
 ghost use Rattle.std.specs.Prelude.{◌≡◌, ◌+◌, ◌*◌, ◌≤◌, length};
 ghost use Rattle.std.proofs.lemmas.List.Edits.{sets};
-ghost use Rattle.server.specs.Parts.{written, writtenTimes};
+ghost use Rattle.server.specs.Parts.{written, written_times};
 
 pub const SENT_BYTES: usize = 10;
 
@@ -35,7 +35,7 @@ pub fn put(out: &mut [u8], n: usize, m: Message)
 // The same message several times, from place n on.
 pub fn put_times(out: &mut [u8], n: usize, m: Message, times: usize)
     requires { 10 * (n + times) ≤ length out.old }
-    ensures { out.new ≡ sets out.old (10 * n) (writtenTimes times m) }
+    ensures { out.new ≡ sets out.old (10 * n) (written_times times m) }
 {
     let mut i = 0;
     while i < times {

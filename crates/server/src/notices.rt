@@ -2,8 +2,8 @@
 ghost use Rattle.std.specs.Prelude.{◌≡◌, ◌+◌, ◌*◌, ◌≤◌, ◌<◌, length};
 ghost use Rattle.std.proofs.lemmas.List.Edits.{sets};
 ghost use Rattle.reader.specs.Sizes.{ids};
-ghost use Rattle.server.specs.Clients.{joinedAt, clients};
-ghost use Rattle.server.specs.Parts.{noticeTo, noticesBytes};
+ghost use Rattle.server.specs.Clients.{joined_at, clients};
+ghost use Rattle.server.specs.Parts.{notice_to, notices_bytes};
 
 use super::messages::Message;
 use super::{clients, messages};
@@ -19,7 +19,7 @@ pub struct Notice {
 }
 
 fn notice_to(notice: Notice, client: u8) -> Message
-    ensures { result ≡ noticeTo notice client }
+    ensures { result ≡ notice_to notice client }
 {
     if notice.single {
         return Message {
@@ -39,9 +39,9 @@ fn notice_to(notice: Notice, client: u8) -> Message
 
 // The messages for one client, if it is joined, from place n on, and the place behind them.
 fn put_notice(out: &mut [u8], n: usize, joined: u64, notice: Notice, client: u64) -> usize
-    requires { (client < ids) × (10 * n + length (noticesBytes notice (joinedAt joined client)) ≤ length out.old) }
-    ensures { (out.new ≡ sets out.old (10 * n) (noticesBytes notice (joinedAt joined client)))
-        × (10 * result ≡ 10 * n + length (noticesBytes notice (joinedAt joined client))) }
+    requires { (client < ids) × (10 * n + length (notices_bytes notice (joined_at joined client)) ≤ length out.old) }
+    ensures { (out.new ≡ sets out.old (10 * n) (notices_bytes notice (joined_at joined client)))
+        × (10 * result ≡ 10 * n + length (notices_bytes notice (joined_at joined client))) }
 {
     if clients::is_joined(joined, client) {
         let message = notice_to(notice, client as u8);
@@ -53,9 +53,9 @@ fn put_notice(out: &mut [u8], n: usize, joined: u64, notice: Notice, client: u64
 
 // The messages for each client, up to the last one that is joined.
 pub fn put_notices(out: &mut [u8], n: usize, joined: u64, notice: Notice) -> usize
-    requires { 10 * n + length (noticesBytes notice (clients joined)) ≤ length out.old }
-    ensures { (out.new ≡ sets out.old (10 * n) (noticesBytes notice (clients joined)))
-        × (10 * result ≡ 10 * n + length (noticesBytes notice (clients joined))) }
+    requires { 10 * n + length (notices_bytes notice (clients joined)) ≤ length out.old }
+    ensures { (out.new ≡ sets out.old (10 * n) (notices_bytes notice (clients joined)))
+        × (10 * result ≡ 10 * n + length (notices_bytes notice (clients joined))) }
 {
     let mut next = n;
     let mut client = 0;

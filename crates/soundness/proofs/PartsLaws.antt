@@ -12,9 +12,9 @@ use Rattle.common.specs.Tests.{every}
 use Rattle.common.proofs.TestLaws.{every_true}
 use Rattle.device.specs.declared.Settings.{Settings}
 use Rattle.device.specs.SetUp.{accepted}
-use Rattle.device.specs.Sizes.{maxPeers}
-use Rattle.device.proofs.SetUpLaws.{accepted-facts, table-small, common-small, output-small}
-use Rattle.device.proofs.SizeLaws.{maxPeers-small}
+use Rattle.device.specs.Sizes.{max_peers}
+use Rattle.device.proofs.SetUpLaws.{accepted_facts, table_small, common_small, output_small}
+use Rattle.device.proofs.SizeLaws.{max_peers_small}
 use Rattle.soundness.specs.Parts.{addable}
 
 pub record Addable (s : Settings) : Type 0 where
@@ -26,7 +26,7 @@ pub record Addable (s : Settings) : Type 0 where
 
 each : (s : Settings) → addable s ≡ true → (k : ℕ) →
     get_or
-    (leb s.peers maxPeers
+    (leb s.peers max_peers
     ∷ leb 1 s.table
     ∷ leb s.table (2 ^ 30)
     ∷ leb s.common (2 ^ 30)
@@ -37,9 +37,9 @@ each : (s : Settings) → addable s ≡ true → (k : ℕ) →
 unfolding addable
 each s e k = every_true _ e k
 
-pub addable-facts : (s : Settings) → addable s ≡ true → Addable s
-addable-facts s e =
-    let p : s.peers ≤ 2 ^ 16 = le_trans (leb-true _ _ (each s e 0)) maxPeers-small in
+pub addable_facts : (s : Settings) → addable s ≡ true → Addable s
+addable_facts s e =
+    let p : s.peers ≤ 2 ^ 16 = le_trans (leb-true _ _ (each s e 0)) max_peers_small in
     let o : s.output ≤ 2 ^ 30 = leb-true _ _ (each s e 4) in
     let a : s.peers * s.output ≤ 2 ^ 16 * s.output = mul-le-mul_right s.output p in
     record {
@@ -50,30 +50,30 @@ addable-facts s e =
       outputs = omega arith;
     }
 
-pub accepted-addable : (s : Settings) → accepted s ≡ true → addable s ≡ true
+pub accepted_addable : (s : Settings) → accepted s ≡ true → addable s ≡ true
 unfolding addable every
-accepted-addable s e =
-    let a = accepted-facts s e in
+accepted_addable s e =
+    let a = accepted_facts s e in
     let one : 1 ≤ s.table = omega (arith, a.two, a.state) in
     rw (
-      le-leb s.peers maxPeers a.peers,
+      le-leb s.peers max_peers a.peers,
       le-leb 1 s.table one,
-      le-leb s.table (2 ^ 30) (table-small s a),
-      le-leb s.common (2 ^ 30) (common-small s a),
-      le-leb s.output (2 ^ 30) (output-small s a),
+      le-leb s.table (2 ^ 30) (table_small s a),
+      le-leb s.common (2 ^ 30) (common_small s a),
+      le-leb s.output (2 ^ 30) (output_small s a),
     )
 
 -- numbers that are not addable are not accepted
-pub unaddable-refused : (s : Settings) → addable s ≡ false → accepted s ≡ false
-unaddable-refused s e = by (accepted s) refl
+pub unaddable_refused : (s : Settings) → addable s ≡ false → accepted s ≡ false
+unaddable_refused s e = by (accepted s) refl
   where
     by : (b : Bool) → accepted s ≡ b → accepted s ≡ false
     by false f = f
-    by true f = let z : true ≡ false = sym (accepted-addable s f) ∙ e in f ∙ z
+    by true f = let z : true ≡ false = sym (accepted_addable s f) ∙ e in f ∙ z
 
 -- the test of the base address without its sum
-pub base-test : (b t : ℕ) → 1 ≤ t → t ≤ 2 ^ 47 → leb b (18446744073709551615 - (t - 1)) ≡ leb (b + t) (2 ^ 64)
-base-test b t h k = by (leb b (18446744073709551615 - (t - 1))) refl
+pub base_test : (b t : ℕ) → 1 ≤ t → t ≤ 2 ^ 47 → leb b (18446744073709551615 - (t - 1)) ≡ leb (b + t) (2 ^ 64)
+base_test b t h k = by (leb b (18446744073709551615 - (t - 1))) refl
   where
     by : (x : Bool) → leb b (18446744073709551615 - (t - 1)) ≡ x → leb b (18446744073709551615 - (t - 1)) ≡ leb (b + t) (2 ^ 64)
     by true e =

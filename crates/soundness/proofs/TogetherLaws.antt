@@ -5,31 +5,31 @@ use mathlib.Core.List.{List, [], ◌∷◌, map}
 use mathlib.Core.Path.{◌≡◌, refl, ap, ◌∙◌}
 use lib.Dec.{eqb}
 use borrow.Author.Tests.{eqb-true}
-use Rattle.common.proofs.MaskLaws.{only-or, or-none}
-use Rattle.common.proofs.TestLaws.{and-swap, every_true}
+use Rattle.common.proofs.MaskLaws.{only_or, or_none}
+use Rattle.common.proofs.TestLaws.{and_swap, every_true}
 use Rattle.common.specs.Bytes.{only}
-use Rattle.common.specs.Tests.{every, everyAfter}
+use Rattle.common.specs.Tests.{every, every_after}
 use Rattle.device.specs.declared.Entry.{Entry}
 use Rattle.device.specs.declared.Peer.{Peer}
 use Rattle.device.specs.declared.Settings.{Settings}
-use Rattle.device.specs.Configuration.{masks, maskIn, maskAt, mask_of}
-use Rattle.device.specs.Reset.{resetPeer}
-use Rattle.device.specs.Sound.{peerFixed, peerReset, entryFixed, entryReset}
+use Rattle.device.specs.Configuration.{masks, mask_in, mask_at, mask_of}
+use Rattle.device.specs.Reset.{reset_peer}
+use Rattle.device.specs.Sound.{peer_fixed, peer_reset, entry_fixed, entry_reset}
 use Rattle.soundness.specs.Together.{together}
 
 -- a list of tests, each of two things, tests both
-every-both : (a b : Bool) (ts : List (Bool × Bool))
-    → everyAfter (a && b) (map (λ (t : Bool × Bool). t.0 && t.1) ts)
-    ≡ (everyAfter a (map (λ (t : Bool × Bool). t.0) ts) && everyAfter b (map (λ (t : Bool × Bool). t.1) ts))
-every-both a b [] = refl
-every-both a b (t ∷ ts) =
-    ap (λ (ok : Bool). everyAfter ok (map (λ (t : Bool × Bool). t.0 && t.1) ts)) (and-swap a b t.0 t.1) ∙ every-both (a && t.0) (b && t.1) ts
+every_both : (a b : Bool) (ts : List (Bool × Bool))
+    → every_after (a && b) (map (λ (t : Bool × Bool). t.0 && t.1) ts)
+    ≡ (every_after a (map (λ (t : Bool × Bool). t.0) ts) && every_after b (map (λ (t : Bool × Bool). t.1) ts))
+every_both a b [] = refl
+every_both a b (t ∷ ts) =
+    ap (λ (ok : Bool). every_after ok (map (λ (t : Bool × Bool). t.0 && t.1) ts)) (and_swap a b t.0 t.1) ∙ every_both (a && t.0) (b && t.1) ts
 
-pub fixed-together : (s : Settings) (a b : Peer) → peerFixed s (together a b) ≡ (peerFixed s a && peerFixed s b)
-unfolding peerFixed every
-fixed-together s a b =
-    simp only-or
-    (every-both true true
+pub fixed_together : (s : Settings) (a b : Peer) → peer_fixed s (together a b) ≡ (peer_fixed s a && peer_fixed s b)
+unfolding peer_fixed every
+fixed_together s a b =
+    simp only_or
+    (every_both true true
     ((only (mask_of s 0x04 2) a.command, only (mask_of s 0x04 2) b.command)
     ∷ (only (mask_of s 0x10 4) a.bar0, only (mask_of s 0x10 4) b.bar0)
     ∷ (only (mask_of s 0x14 4) a.bar1, only (mask_of s 0x14 4) b.bar1)
@@ -38,11 +38,11 @@ fixed-together s a b =
     ∷ (only 1 a.interrupt, only 1 b.interrupt)
     ∷ []))
 
-pub reset-together : (a b : Peer) → peerReset (together a b) ≡ (peerReset a && peerReset b)
-unfolding peerReset every
-reset-together a b =
-    simp or-none
-    (every-both true true
+pub reset_together : (a b : Peer) → peer_reset (together a b) ≡ (peer_reset a && peer_reset b)
+unfolding peer_reset every
+reset_together a b =
+    simp or_none
+    (every_both true true
     ((eqb a.connected 0, eqb b.connected 0)
     ∷ (eqb a.command 0, eqb b.command 0)
     ∷ (eqb a.bar0 0, eqb b.bar0 0)
@@ -54,17 +54,17 @@ reset-together a b =
     ∷ []))
 
 -- nothing is set where no peer is collected
-pub none-fixed : (s : Settings) → peerFixed s (resetPeer 0) ≡ true
-unfolding peerFixed every masks maskIn maskAt mask_of
-none-fixed s = refl
+pub none_fixed : (s : Settings) → peer_fixed s (reset_peer 0) ≡ true
+unfolding peer_fixed every masks mask_in mask_at mask_of
+none_fixed s = refl
 
-pub none-reset : peerReset (resetPeer 0) ≡ true
-unfolding peerReset every
-none-reset = refl
+pub none_reset : peer_reset (reset_peer 0) ≡ true
+unfolding peer_reset every
+none_reset = refl
 
-peer-at-reset : (p : Peer) → peerReset p ≡ true → p ≡ resetPeer 0
-unfolding peerReset
-peer-at-reset p r =
+peer_at_reset : (p : Peer) → peer_reset p ≡ true → p ≡ reset_peer 0
+unfolding peer_reset
+peer_at_reset p r =
     λ i. record {
       connected = eqb-true p.connected 0 (every_true _ r 0) i;
       command = eqb-true p.command 0 (every_true _ r 1) i;
@@ -76,15 +76,15 @@ peer-at-reset p r =
       state = eqb-true p.state 0 (every_true _ r 7) i;
     }
 
-pub reset-fixed : (s : Settings) (p : Peer) → peerReset p ≡ true → peerFixed s p ≡ true
-reset-fixed s p r = rw (peer-at-reset p r) (none-fixed s)
+pub reset_fixed : (s : Settings) (p : Peer) → peer_reset p ≡ true → peer_fixed s p ≡ true
+reset_fixed s p r = rw (peer_at_reset p r) (none_fixed s)
 
-entry-at-reset : (e : Entry) → entryReset e ≡ true → (e.low ≡ 0) × (e.control ≡ 1)
-unfolding entryReset
-entry-at-reset e r = (eqb-true e.low 0 (every_true _ r 0), eqb-true e.control 1 (every_true _ r 3))
+entry_at_reset : (e : Entry) → entry_reset e ≡ true → (e.low ≡ 0) × (e.control ≡ 1)
+unfolding entry_reset
+entry_at_reset e r = (eqb-true e.low 0 (every_true _ r 0), eqb-true e.control 1 (every_true _ r 3))
 
-pub entry-reset-fixed : (e : Entry) → entryReset e ≡ true → entryFixed e ≡ true
-unfolding entryFixed every
-entry-reset-fixed e r =
-    let z = entry-at-reset e r in
+pub entry_reset_fixed : (e : Entry) → entry_reset e ≡ true → entry_fixed e ≡ true
+unfolding entry_fixed every
+entry_reset_fixed e r =
+    let z = entry_at_reset e r in
     rw (z.0, z.1)

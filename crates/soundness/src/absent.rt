@@ -1,8 +1,8 @@
 // The peers that are not connected, run by run: their registers and entries hold reset values.
 ghost use Rattle.std.specs.Prelude.{◌≡◌, ◌≤◌};
 ghost use Rattle.common.specs.Tests.{below};
-ghost use Rattle.words.specs.Layout.{hubOf};
-ghost use Rattle.soundness.specs.Absent.{Here, NextAbsent, Tells, Vacant, absentSlot, gapReset};
+ghost use Rattle.words.specs.Layout.{hub_of};
+ghost use Rattle.soundness.specs.Absent.{Here, NextAbsent, Tells, Vacant, absent_slot, gap_reset};
 
 use device::Peer;
 
@@ -15,7 +15,7 @@ struct Gap {
 
 // There is a peer of this id, and it is connected, or not, as asked.
 fn stands(hub: &[u32], i: usize, peers: usize, used: bool) -> bool
-    requires { peers ≤ (hubOf hub.now).settings.peers }
+    requires { peers ≤ (hub_of hub.now).settings.peers }
     ensures { Tells hub.now i peers used result }
 {
     if peers <= i {
@@ -27,7 +27,7 @@ fn stands(hub: &[u32], i: usize, peers: usize, used: bool) -> bool
 
 // The first id from one on whose peer is not connected; the number of peers where there is none.
 fn next_absent(hub: &[u32], from: usize, peers: usize) -> usize
-    requires { (from ≤ peers) × (peers ≤ (hubOf hub.now).settings.peers) }
+    requires { (from ≤ peers) × (peers ≤ (hub_of hub.now).settings.peers) }
     ensures { NextAbsent hub.now from peers result }
 {
     let mut i = from;
@@ -57,15 +57,15 @@ fn gap_from(hub: &[u32], from: usize, peers: usize) -> Gap
 
 fn gap_reset(hub: &[u32], from: usize, peers: usize, gap: Gap) -> bool
     requires { Vacant hub.now from peers gap }
-    ensures { result ≡ gapReset hub.now from gap.to }
+    ensures { result ≡ gap_reset hub.now from gap.to }
 {
     let entries = words::entries_reset(hub, from, gap.to);
     super::parts::peer_reset(gap.all) & entries
 }
 
 pub fn absent_sound(hub: &[u32], peers: usize) -> bool
-    requires { peers ≤ (hubOf hub.now).settings.peers }
-    ensures { result ≡ below peers (absentSlot hub.now) }
+    requires { peers ≤ (hub_of hub.now).settings.peers }
+    ensures { result ≡ below peers (absent_slot hub.now) }
 {
     let mut ok = true;
     let mut i = next_absent(hub, 0, peers);

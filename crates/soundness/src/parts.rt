@@ -7,7 +7,7 @@ ghost use Rattle.soundness.specs.Together;
 use device::{Peer, Settings};
 
 pub fn peer_fixed(s: Settings, p: Peer) -> bool
-    ensures { result ≡ Sound.peerFixed s p }
+    ensures { result ≡ Sound.peer_fixed s p }
 {
     ((p.command & 0x0406) == p.command)
         & ((p.bar0 & 0xFFFFF000) == p.bar0)
@@ -18,7 +18,7 @@ pub fn peer_fixed(s: Settings, p: Peer) -> bool
 }
 
 pub fn peer_reset(p: Peer) -> bool
-    ensures { result ≡ Sound.peerReset p }
+    ensures { result ≡ Sound.peer_reset p }
 {
     (p.connected == 0)
         & (p.command == 0)

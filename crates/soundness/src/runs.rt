@@ -1,10 +1,10 @@
 // The entries of neighbours that are all connected, or all not, are tested together: in each column they stand in one run of words.
 ghost use Rattle.std.specs.Prelude.{◌&&◌, ◌≡◌, ◌+◌, ◌≤◌};
 ghost use Rattle.common.specs.Tests.{below};
-ghost use Rattle.device.specs.Sound.{entryFixed};
-ghost use Rattle.words.specs.Layout.{hubOf, Known};
+ghost use Rattle.device.specs.Sound.{entry_fixed};
+ghost use Rattle.words.specs.Layout.{hub_of, Known};
 ghost use Rattle.words.specs.Runs.{Run, run_of};
-ghost use Rattle.soundness.specs.Scanned.{Scanned, Uniform, absentRegisters, entriesFrom, entriesSound};
+ghost use Rattle.soundness.specs.Scanned.{Scanned, Uniform, absent_registers, entries_from, entries_sound};
 
 // The peers passed so far: whether the registers of those that are not connected, and the entries of all but the last run, are
 // sound; where that run begins, and whether its peers are connected.
@@ -18,14 +18,14 @@ struct Scan {
 // No fixed bit is set in the entries of the peers from one id up to another.
 pub fn entries_fixed(hub: &[u32], from: usize, to: usize) -> bool
     requires { Run hub.now from to }
-    ensures { result ≡ run_of (hubOf hub.now) from to entryFixed }
+    ensures { result ≡ run_of (hub_of hub.now) from to entry_fixed }
 {
     words::entries_only(hub, from, to, 0xFFFFFFFC, 0x00000001)
 }
 
 pub fn run_sound(hub: &[u32], from: usize, to: usize, used: bool) -> bool
     requires { Uniform hub.now from to used }
-    ensures { result ≡ entriesFrom (hubOf hub.now) from to }
+    ensures { result ≡ entries_from (hub_of hub.now) from to }
 {
     if to <= from {
         return true;
@@ -63,8 +63,8 @@ fn scan_peer(hub: &[u32], i: usize, scan: Scan) -> Scan
 }
 
 pub fn runs_sound(hub: &[u32], peers: usize) -> bool
-    requires { peers ≤ (hubOf hub.now).settings.peers }
-    ensures { result ≡ (below peers (absentRegisters hub.now) && below peers (entriesSound (hubOf hub.now))) }
+    requires { peers ≤ (hub_of hub.now).settings.peers }
+    ensures { result ≡ (below peers (absent_registers hub.now) && below peers (entries_sound (hub_of hub.now))) }
 {
     let mut scan = Scan {
         ok: true,

@@ -5,7 +5,7 @@ ghost use Rattle.std.specs.Prelude.{◌≡◌, ◌+◌};
 ghost use Rattle.common.specs.Tests.{below};
 ghost use Rattle.device.specs.Sound;
 ghost use Rattle.device.specs.World.{slot_at};
-ghost use Rattle.words.specs.Layout.{hubOf, Known};
+ghost use Rattle.words.specs.Layout.{hub_of, Known};
 ghost use Rattle.soundness.specs.Scanned.{Seen};
 
 use device::{Peer, Settings};
@@ -37,7 +37,7 @@ fn see_peer(hub: &[u32], s: Settings, i: usize, seen: Peers) -> Peers
 }
 
 fn see_peers(hub: &[u32], s: Settings) -> Peers
-    requires { s ≡ (hubOf hub.now).settings }
+    requires { s ≡ (hub_of hub.now).settings }
     ensures { Seen hub.now s s.peers result }
 {
     let peers = s.peers as usize;
@@ -55,10 +55,10 @@ fn see_peers(hub: &[u32], s: Settings) -> Peers
 
 // Some peers are connected, and some are not.
 fn mixed_sound(hub: &[u32], s: Settings, seen: Peers) -> bool
-    requires same { s ≡ (hubOf hub.now).settings }
+    requires same { s ≡ (hub_of hub.now).settings }
     requires passed { Seen hub.now s s.peers seen }
     requires mixed { seen.connected ≡ s.peers → ⊥ }
-    ensures { result ≡ below s.peers (λ i. Sound.slotSound s (slot_at (hubOf hub.now) i)) }
+    ensures { result ≡ below s.peers (λ i. Sound.slot_sound s (slot_at (hub_of hub.now) i)) }
 {
     let peers = s.peers as usize;
     let fixed = super::parts::peer_fixed(s, seen.all);
@@ -72,8 +72,8 @@ fn mixed_sound(hub: &[u32], s: Settings, seen: Peers) -> bool
 }
 
 fn slots_sound(hub: &[u32], s: Settings) -> bool
-    requires { s ≡ (hubOf hub.now).settings }
-    ensures { result ≡ below s.peers (λ i. Sound.slotSound s (slot_at (hubOf hub.now) i)) }
+    requires { s ≡ (hub_of hub.now).settings }
+    ensures { result ≡ below s.peers (λ i. Sound.slot_sound s (slot_at (hub_of hub.now) i)) }
 {
     let peers = s.peers as usize;
     let seen = see_peers(hub, s);
@@ -90,7 +90,7 @@ fn slots_sound(hub: &[u32], s: Settings) -> bool
 }
 
 pub fn sound(hub: &[u32]) -> bool
-    ensures { result ≡ Sound.sound (hubOf hub.now) }
+    ensures { result ≡ Sound.sound (hub_of hub.now) }
 {
     let sized = words::fits(hub);
     if !sized {

@@ -5,15 +5,15 @@ use mathlib.Core.Path.{◌≡◌, sym, ap, ◌∙◌}
 use native.Mathlib.Nat.{mul-le-mul, mul-zero, mod-lt, le_trans, div-add-mod', div-lt_iff_lt-mul}
 use native.Mathlib.Omega.{arith}
 use lib.Arith.{digits_lt, digits_div, digits_mod}
-use Rattle.device.proofs.SizeLaws.{maxPeers-small, maxVectors-small}
-use Rattle.device.specs.Sizes.{maxPeers, maxVectors}
-use Rattle.words.specs.Layout.{hubWords, entryStart}
+use Rattle.device.proofs.SizeLaws.{max_peers_small, max_vectors_small}
+use Rattle.device.specs.Sizes.{max_peers, max_vectors}
+use Rattle.words.specs.Layout.{hub_words, entry_start}
 
-pub entries-small : (n m : ℕ) → n ≤ maxPeers → m ≤ maxVectors → n * m ≤ 2 ^ 24
-entries-small n m few less = mul-le-mul (le_trans few maxPeers-small) (le_trans less maxVectors-small)
+pub entries_small : (n m : ℕ) → n ≤ max_peers → m ≤ max_vectors → n * m ≤ 2 ^ 24
+entries_small n m few less = mul-le-mul (le_trans few max_peers_small) (le_trans less max_vectors_small)
 
-digits-injective : {q r p s m : ℕ} → r < m → s < m → q * m + r ≡ p * m + s → (q ≡ p) × (r ≡ s)
-digits-injective {q} {r} {p} {s} {m} hr hs e = (
+digits_injective : {q r p s m : ℕ} → r < m → s < m → q * m + r ≡ p * m + s → (q ≡ p) × (r ≡ s)
+digits_injective {q} {r} {p} {s} {m} hr hs e = (
   sym (digits_div q hr) ∙ ap (λ (n : ℕ). n / m) e ∙ digits_div p hs,
   sym (digits_mod q hr) ∙ ap (λ (n : ℕ). n % m) e ∙ digits_mod p hs,
 )
@@ -23,33 +23,33 @@ module _ (n m : ℕ) where
   pub row_below : {i v : ℕ} → i < n → v < m → i * m + v < n * m
   row_below hi hv = digits_lt hi hv
 
-  pub entry-below : (c i v : ℕ) → c < 4 → i < n → v < m → entryStart n m c i v < hubWords n m
-  unfolding hubWords
-  entry-below c i v hc hi hv =
+  pub entry_below : (c i v : ℕ) → c < 4 → i < n → v < m → entry_start n m c i v < hub_words n m
+  unfolding hub_words
+  entry_below c i v hc hi hv =
       let d : c * (n * m) + (i * m + v) < 4 * (n * m) = digits_lt hc (row_below hi hv) in
       omega arith
 
-  pub entry-apart : (c d i j v w : ℕ) → i < n → j < n → v < m → w < m → entryStart n m c i v ≡ entryStart n m d j w → (i ≡ j) × (v ≡ w)
-  entry-apart c d i j v w hi hj hv hw e =
+  pub entry_apart : (c d i j v w : ℕ) → i < n → j < n → v < m → w < m → entry_start n m c i v ≡ entry_start n m d j w → (i ≡ j) × (v ≡ w)
+  entry_apart c d i j v w hi hj hv hw e =
       let s : c * (n * m) + (i * m + v) ≡ d * (n * m) + (j * m + w) = omega arith in
-      digits-injective hv hw (digits-injective (row_below hi hv) (row_below hj hw) s).1
+      digits_injective hv hw (digits_injective (row_below hi hv) (row_below hj hw) s).1
 
 -- the entry and the column of a place
 pub record EntryPlace (n m k : ℕ) : Type 0 where
   pub column : ℕ
   pub id : ℕ
   pub vector : ℕ
-  pub column-below : column < 4
+  pub column_below : column < 4
   pub id_below : id < n
-  pub vector-below : vector < m
-  pub place : entryStart n m column id vector ≡ k
+  pub vector_below : vector < m
+  pub place : entry_start n m column id vector ≡ k
 
-vectors-pos : (n m : ℕ) → 0 < n * m → 0 < m
-vectors-pos n zero h = absurd (omega (arith, mul-zero n))
-vectors-pos n (suc m) h = omega arith
+vectors_pos : (n m : ℕ) → 0 < n * m → 0 < m
+vectors_pos n zero h = absurd (omega (arith, mul-zero n))
+vectors_pos n (suc m) h = omega arith
 
-pub entry_place : (n m k : ℕ) → 10 + 8 * n ≤ k → k < hubWords n m → EntryPlace n m k
-unfolding hubWords
+pub entry_place : (n m k : ℕ) → 10 + 8 * n ≤ k → k < hub_words n m → EntryPlace n m k
+unfolding hub_words
 entry_place n m k low high =
     let r : ℕ = k - (10 + 8 * n) in
     let pos : 0 < n * m = omega arith in
@@ -59,8 +59,8 @@ entry_place n m k low high =
       column = r / (n * m);
       id = r % (n * m) / m;
       vector = r % (n * m) % m;
-      column-below = (div-lt_iff_lt-mul pos).1 (omega arith);
-      id_below = (div-lt_iff_lt-mul (vectors-pos n m pos)).1 (mod-lt r pos);
-      vector-below = mod-lt (r % (n * m)) (vectors-pos n m pos);
+      column_below = (div-lt_iff_lt-mul pos).1 (omega arith);
+      id_below = (div-lt_iff_lt-mul (vectors_pos n m pos)).1 (mod-lt r pos);
+      vector_below = mod-lt (r % (n * m)) (vectors_pos n m pos);
       place = omega arith;
     }

@@ -39,8 +39,8 @@ copied_at {a} {b} {place} {other} {values} {n} e copied =
 pub filled_none : (a : List ℕ) (at value : ℕ) → Filled a a at value 0
 filled_none a at value = record { there = λ r h. absurd (not-suc-le-zero h); kept = λ k away. refl }
 
-pub filled-one : (a b : List ℕ) (at value n : ℕ) → at + n < length b → Filled a b at value n → Filled a (set b (at + n) value) at value (n + 1)
-filled-one a b at value n inside old =
+pub filled_one : (a b : List ℕ) (at value n : ℕ) → at + n < length b → Filled a b at value n → Filled a (set b (at + n) value) at value (n + 1)
+filled_one a b at value n inside old =
     record {
       there = λ r h. ⊎_elim (λ e. rw e (get_or-set_same b (at + n) value 0 inside))
           (λ l. get_or-set_other b (at + n) (at + r) value 0 (λ e. omega arith) ∙ old.there r l)

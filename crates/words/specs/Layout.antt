@@ -7,19 +7,19 @@ use Rattle.common.specs.Tests.{every}
 use Rattle.device.specs.declared.Entry.{Entry}
 use Rattle.device.specs.declared.Peer.{Peer}
 use Rattle.device.specs.declared.Settings.{Settings}
-use Rattle.device.specs.Sizes.{maxPeers, maxVectors}
-use Rattle.device.specs.World.{Hub, Slot, zeroHub}
+use Rattle.device.specs.Sizes.{max_peers, max_vectors}
+use Rattle.device.specs.World.{Hub, Slot, zero_hub}
 
 -- how many words a hub of n peers and m vectors has
-unfoldable pub hubWords : (n m : ℕ) → ℕ
-hubWords n m = 10 + 8 * n + 4 * (n * m)
+unfoldable pub hub_words : (n m : ℕ) → ℕ
+hub_words n m = 10 + 8 * n + 4 * (n * m)
 
 abbrev pub word : List ℕ → ℕ → ℕ
 word ws k = get_or ws k 0
 
 -- the base address is the only number of two words
-unfoldable pub settingsOf : List ℕ → Settings
-settingsOf ws =
+unfoldable pub settings_of : List ℕ → Settings
+settings_of ws =
     record {
       peers = word ws 0;
       vectors = word ws 1;
@@ -33,56 +33,56 @@ settingsOf ws =
     }
 
 -- where a peer's eight words begin
-abbrev pub peerStart : ℕ → ℕ
-peerStart i = 10 + 8 * i
+abbrev pub peer_start : ℕ → ℕ
+peer_start i = 10 + 8 * i
 
-unfoldable pub peerOf : List ℕ → ℕ → Peer
-peerOf ws i =
+unfoldable pub peer_of : List ℕ → ℕ → Peer
+peer_of ws i =
     record {
-      connected = word ws (peerStart i);
-      command = word ws (peerStart i + 1);
-      bar0 = word ws (peerStart i + 2);
-      bar1 = word ws (peerStart i + 3);
-      privileged = word ws (peerStart i + 4);
-      message = word ws (peerStart i + 5);
-      interrupt = word ws (peerStart i + 6);
-      state = word ws (peerStart i + 7);
+      connected = word ws (peer_start i);
+      command = word ws (peer_start i + 1);
+      bar0 = word ws (peer_start i + 2);
+      bar1 = word ws (peer_start i + 3);
+      privileged = word ws (peer_start i + 4);
+      message = word ws (peer_start i + 5);
+      interrupt = word ws (peer_start i + 6);
+      state = word ws (peer_start i + 7);
     }
 
 -- where an entry's word of a column stands, in a hub of n peers and m vectors
-abbrev pub entryStart : (n m column i v : ℕ) → ℕ
-entryStart n m column i v = 10 + 8 * n + column * (n * m) + (i * m + v)
+abbrev pub entry_start : (n m column i v : ℕ) → ℕ
+entry_start n m column i v = 10 + 8 * n + column * (n * m) + (i * m + v)
 
 unfoldable pub entry_of : (n m : ℕ) → List ℕ → ℕ → ℕ → Entry
 entry_of n m ws i v =
     record {
-      low = word ws (entryStart n m 0 i v);
-      high = word ws (entryStart n m 1 i v);
-      payload = word ws (entryStart n m 2 i v);
-      control = word ws (entryStart n m 3 i v);
+      low = word ws (entry_start n m 0 i v);
+      high = word ws (entry_start n m 1 i v);
+      payload = word ws (entry_start n m 2 i v);
+      control = word ws (entry_start n m 3 i v);
     }
 
 unfoldable pub slot_of : (n m : ℕ) → List ℕ → ℕ → Slot
-slot_of n m ws i = record { peer = peerOf ws i; entries = tabulate m (entry_of n m ws i) }
+slot_of n m ws i = record { peer = peer_of ws i; entries = tabulate m (entry_of n m ws i) }
 
 unfoldable pub decoded : (n m : ℕ) → List ℕ → Hub
-decoded n m ws = record { settings = settingsOf ws; slots = tabulate n (slot_of n m ws) }
+decoded n m ws = record { settings = settings_of ws; slots = tabulate n (slot_of n m ws) }
 
 -- there are as many words as the first two ask for, and these ask for no more than a hub can have
 unfoldable pub fits : List ℕ → Bool
 fits ws =
-    every (leb (word ws 0) maxPeers ∷ leb (word ws 1) maxVectors ∷ eqb (length ws) (hubWords (word ws 0) (word ws 1)) ∷ [])
+    every (leb (word ws 0) max_peers ∷ leb (word ws 1) max_vectors ∷ eqb (length ws) (hub_words (word ws 0) (word ws 1)) ∷ [])
 
 -- any other words are the all-zero hub, which is not sound
-unfoldable pub hubOf : List ℕ → Hub
-hubOf ws = cond (fits ws) (decoded (word ws 0) (word ws 1) ws) zeroHub
+unfoldable pub hub_of : List ℕ → Hub
+hub_of ws = cond (fits ws) (decoded (word ws 0) (word ws 1) ws) zero_hub
 
 -- an id and a vector of the hub that the words are
 abbrev pub Known : List ℕ → ℕ → Type 0
-Known ws i = i < (hubOf ws).settings.peers
+Known ws i = i < (hub_of ws).settings.peers
 
 abbrev pub KnownVector : List ℕ → ℕ → Type 0
-KnownVector ws v = v < (hubOf ws).settings.vectors
+KnownVector ws v = v < (hub_of ws).settings.vectors
 
 -- the settings fit the words that hold them, and a hub can have so many peers and vectors; accepted ones do
 pub record Storable (s : Settings) : Type 0 where
@@ -94,5 +94,5 @@ pub record Storable (s : Settings) : Type 0 where
   pub protocol : s.protocol < 2 ^ 32
   pub vendor : s.vendor < 2 ^ 32
   pub subsystem : s.subsystem < 2 ^ 32
-  pub few : s.peers ≤ maxPeers
-  pub less : s.vectors ≤ maxVectors
+  pub few : s.peers ≤ max_peers
+  pub less : s.vectors ≤ max_vectors

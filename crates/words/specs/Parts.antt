@@ -4,11 +4,11 @@ use Rattle.device.specs.declared.Entry.{Entry}
 use Rattle.device.specs.declared.Peer.{Peer}
 use Rattle.device.specs.declared.Settings.{Settings}
 use Rattle.words.specs.Layout
-use Rattle.words.specs.Layout.{word, hubOf}
+use Rattle.words.specs.Layout.{word, hub_of}
 
 -- the ten words of the settings
-abbrev pub settingsWords : Settings → List ℕ
-settingsWords s =
+abbrev pub settings_words : Settings → List ℕ
+settings_words s =
     s.peers
     ∷ s.vectors
     ∷ s.table
@@ -22,8 +22,8 @@ settingsWords s =
     ∷ []
 
 -- eight words from a place on as a peer's registers
-abbrev pub peerFrom : List ℕ → ℕ → Peer
-peerFrom ws at =
+abbrev pub peer_from : List ℕ → ℕ → Peer
+peer_from ws at =
     record {
       connected = word ws at;
       command = word ws (at + 1);
@@ -36,8 +36,8 @@ peerFrom ws at =
     }
 
 -- four words from a place on, each a step further, as an entry
-abbrev pub entryFrom : List ℕ → ℕ → ℕ → Entry
-entryFrom ws at step =
+abbrev pub entry_from : List ℕ → ℕ → ℕ → Entry
+entry_from ws at step =
     record {
       low = word ws at;
       high = word ws (at + step);
@@ -58,5 +58,5 @@ pub record Filled (before after : List ℕ) (at value n : ℕ) : Type 0 where
 -- the words are a hub of these settings, and past the first ten they are as they were
 pub record Set (before after : List ℕ) (s : Settings) : Type 0 where
   pub fits : Layout.fits after ≡ true
-  pub settings : (hubOf after).settings ≡ s
+  pub settings : (hub_of after).settings ≡ s
   pub kept : (k : ℕ) → 10 ≤ k → word after k ≡ word before k

@@ -3,9 +3,9 @@
 ghost use Rattle.std.specs.Prelude.{◌&&◌, ◌≡◌, ◌+◌, ◌*◌, ◌≤◌, length};
 ghost use Rattle.common.specs.Bytes.{only};
 ghost use Rattle.common.specs.Tests.{below};
-ghost use Rattle.device.specs.Sound.{entryReset};
-ghost use Rattle.words.specs.Layout.{hubOf, word};
-ghost use Rattle.words.specs.Parts.{entryFrom};
+ghost use Rattle.device.specs.Sound.{entry_reset};
+ghost use Rattle.words.specs.Layout.{hub_of, word};
+ghost use Rattle.words.specs.Parts.{entry_from};
 ghost use Rattle.words.specs.Runs.{Run, Stands, run_of};
 
 // Where the entries of a run of peers stand in the first column, how many they are, and how far the columns are apart.
@@ -48,7 +48,7 @@ fn words_only(hub: &[u32], start: usize, size: usize, column: usize, low: u32, c
 // The words of a run hold their reset values, in all four columns.
 fn words_reset(hub: &[u32], start: usize, size: usize, column: usize) -> bool
     requires { start + size + 3 * column ≤ length hub.now }
-    ensures { result ≡ below size (λ k. entryReset (entryFrom hub.now (start + k) column)) }
+    ensures { result ≡ below size (λ k. entry_reset (entry_from hub.now (start + k) column)) }
 {
     let mut faults = 0;
     let mut k = 0;
@@ -67,7 +67,7 @@ fn words_reset(hub: &[u32], start: usize, size: usize, column: usize) -> bool
 // No entry of the peers from one id up to another has a bit set but those of these masks, in its address-low and control words.
 pub fn entries_only(hub: &[u32], from: usize, to: usize, low: u32, control: u32) -> bool
     requires { Run hub.now from to }
-    ensures { result ≡ run_of (hubOf hub.now) from to (λ e. only low e.low && only control e.control) }
+    ensures { result ≡ run_of (hub_of hub.now) from to (λ e. only low e.low && only control e.control) }
 {
     let at = run_places(hub, from, to);
     words_only(hub, at.start, at.size, at.column, low, control)
@@ -76,7 +76,7 @@ pub fn entries_only(hub: &[u32], from: usize, to: usize, low: u32, control: u32)
 // Every entry of these peers holds its reset values.
 pub fn entries_reset(hub: &[u32], from: usize, to: usize) -> bool
     requires { Run hub.now from to }
-    ensures { result ≡ run_of (hubOf hub.now) from to entryReset }
+    ensures { result ≡ run_of (hub_of hub.now) from to entry_reset }
 {
     let at = run_places(hub, from, to);
     words_reset(hub, at.start, at.size, at.column)

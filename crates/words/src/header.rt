@@ -1,7 +1,7 @@
 // The first ten words: the settings.
 ghost use Rattle.std.specs.Prelude.{true, ◌≡◌, ◌+◌, ◌*◌, ◌^◌, ◌<◌, ◌≤◌, length, get_or};
-ghost use Rattle.words.specs.Layout.{hubWords, hubOf, fits, settingsOf, Storable};
-ghost use Rattle.words.specs.Parts.{settingsWords, Set};
+ghost use Rattle.words.specs.Layout.{hub_words, hub_of, fits, settings_of, Storable};
+ghost use Rattle.words.specs.Parts.{settings_words, Set};
 
 use device::Settings;
 
@@ -27,7 +27,7 @@ fn joined(low: u32, high: u32) -> u64
 
 fn settings_from(hub: &[u32]) -> Settings
     requires { 10 ≤ length hub.now }
-    ensures { result ≡ settingsOf hub.now }
+    ensures { result ≡ settings_of hub.now }
 {
     Settings {
         peers: wide(hub, 0),
@@ -44,14 +44,14 @@ fn settings_from(hub: &[u32]) -> Settings
 
 pub fn settings(hub: &[u32]) -> Settings
     requires { fits hub.now ≡ true }
-    ensures { result ≡ (hubOf hub.now).settings }
+    ensures { result ≡ (hub_of hub.now).settings }
 {
     settings_from(hub)
 }
 
 fn settings_words(s: Settings) -> [u32; 10]
     requires { Storable s }
-    ensures { result ≡ settingsWords s }
+    ensures { result ≡ settings_words s }
 {
     [
         s.peers as u32,
@@ -69,7 +69,7 @@ fn settings_words(s: Settings) -> [u32; 10]
 
 // The words then are a hub of these settings, whatever stands in its slots.
 pub fn put_settings(hub: &mut [u32], s: Settings)
-    requires size { length hub.old ≡ hubWords s.peers s.vectors }
+    requires size { length hub.old ≡ hub_words s.peers s.vectors }
     requires small { Storable s }
     ensures { Set hub.old hub.new s }
 {

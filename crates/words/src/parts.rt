@@ -1,12 +1,12 @@
 // Several words of the hub at once.
 ghost use Rattle.std.specs.Prelude.{◌≡◌, ℕ, ◌+◌, ◌*◌, ◌<◌, ◌≤◌, length};
-ghost use Rattle.words.specs.Parts.{peerFrom, entryFrom, Copied, Filled};
+ghost use Rattle.words.specs.Parts.{peer_from, entry_from, Copied, Filled};
 
 use device::{Entry, Peer};
 
 pub fn peer_from(hub: &[u32], at: usize) -> Peer
     requires { at + 8 ≤ length hub.now }
-    ensures { result ≡ peerFrom hub.now at }
+    ensures { result ≡ peer_from hub.now at }
 {
     Peer {
         connected: hub[at],
@@ -22,7 +22,7 @@ pub fn peer_from(hub: &[u32], at: usize) -> Peer
 
 pub fn entry_from(hub: &[u32], at: usize, step: usize) -> Entry
     requires { at + 3 * step < length hub.now }
-    ensures { result ≡ entryFrom hub.now at step }
+    ensures { result ≡ entry_from hub.now at step }
 {
     Entry {
         low: hub[at],

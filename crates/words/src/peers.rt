@@ -1,20 +1,20 @@
 // Eight words for each peer.
 ghost use Rattle.std.specs.Prelude.{◌≡◌};
-ghost use Rattle.device.specs.World.{slot_at, withSlot, withPeer};
-ghost use Rattle.words.specs.Layout.{hubOf, Known};
+ghost use Rattle.device.specs.World.{slot_at, with_slot, with_peer};
+ghost use Rattle.words.specs.Layout.{hub_of, Known};
 
 use device::Peer;
 
 pub fn peer(hub: &[u32], i: usize) -> Peer
     requires { Known hub.now i }
-    ensures { result ≡ (slot_at (hubOf hub.now) i).peer }
+    ensures { result ≡ (slot_at (hub_of hub.now) i).peer }
 {
     super::parts::peer_from(hub, 10 + 8 * i)
 }
 
 pub fn put_peer(hub: &mut [u32], i: usize, p: Peer)
     requires { Known hub.old i }
-    ensures { hubOf hub.new ≡ withSlot (hubOf hub.old) i (withPeer (slot_at (hubOf hub.old) i) p) }
+    ensures { hub_of hub.new ≡ with_slot (hub_of hub.old) i (with_peer (slot_at (hub_of hub.old) i) p) }
 {
     let values = [
         p.connected,

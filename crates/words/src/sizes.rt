@@ -1,7 +1,7 @@
 // How many words a hub has: the first two say how many peers and vectors there are.
 ghost use Rattle.std.specs.Prelude.{◌≡◌, ◌≤◌, ◌<◌, length};
-ghost use Rattle.device.specs.Sizes.{maxPeers, maxVectors};
-ghost use Rattle.words.specs.Layout.{hubWords, hubOf, word};
+ghost use Rattle.device.specs.Sizes.{max_peers, max_vectors};
+ghost use Rattle.words.specs.Layout.{hub_words, hub_of, word};
 ghost use Rattle.words.specs.Layout;
 
 // A hub's numbers of peers and vectors.
@@ -12,8 +12,8 @@ pub struct Counts {
 }
 
 pub fn hub_words(peers: usize, vectors: usize) -> usize
-    requires { (peers ≤ maxPeers) × (vectors ≤ maxVectors) }
-    ensures { result ≡ hubWords peers vectors }
+    requires { (peers ≤ max_peers) × (vectors ≤ max_vectors) }
+    ensures { result ≡ hub_words peers vectors }
 {
     10 + 8 * peers + 4 * (peers * vectors)
 }
@@ -46,7 +46,7 @@ pub fn fits(hub: &[u32]) -> bool
 
 // None of both where the words are no hub.
 pub fn counts_of(hub: &[u32]) -> Counts
-    ensures { (result.peers ≡ (hubOf hub.now).settings.peers) × (result.vectors ≡ (hubOf hub.now).settings.vectors) }
+    ensures { (result.peers ≡ (hub_of hub.now).settings.peers) × (result.vectors ≡ (hub_of hub.now).settings.vectors) }
 {
     let sized = fits(hub);
     if sized {

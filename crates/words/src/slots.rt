@@ -1,15 +1,15 @@
 // Whole slots and whole hubs.
 ghost use Rattle.std.specs.Prelude.{◌≡◌, length, replicate};
-ghost use Rattle.device.specs.SetUp.{freshHub};
-ghost use Rattle.device.specs.World.{withSlot, resetSlot};
-ghost use Rattle.words.specs.Layout.{hubWords, hubOf, Known, Storable};
+ghost use Rattle.device.specs.SetUp.{fresh_hub};
+ghost use Rattle.device.specs.World.{with_slot, reset_slot};
+ghost use Rattle.words.specs.Layout.{hub_words, hub_of, Known, Storable};
 
 use device::{Entry, Peer, Settings};
 
 // A peer's registers and entries at their reset values, connected (1) or not (0).
 pub fn put_reset(hub: &mut [u32], i: usize, connected: u32)
     requires { Known hub.old i }
-    ensures { hubOf hub.new ≡ withSlot (hubOf hub.old) i (resetSlot (hubOf hub.old).settings.vectors connected) }
+    ensures { hub_of hub.new ≡ with_slot (hub_of hub.old) i (reset_slot (hub_of hub.old).settings.vectors connected) }
 {
     super::put_peer(hub, i, Peer::reset(connected));
     let n = super::sizes::count(hub, 0);
@@ -25,9 +25,9 @@ pub fn put_reset(hub: &mut [u32], i: usize, connected: u32)
 
 // A hub with these settings and nobody connected: but for the settings every word is 0, and 1 in the column of controls.
 pub fn put_fresh(hub: &mut [u32], s: Settings)
-    requires size { length hub.old ≡ hubWords s.peers s.vectors }
+    requires size { length hub.old ≡ hub_words s.peers s.vectors }
     requires small { Storable s }
-    ensures { hubOf hub.new ≡ freshHub s }
+    ensures { hub_of hub.new ≡ fresh_hub s }
 {
     let size = s.peers as usize * s.vectors as usize;
     let start = 10 + 8 * s.peers as usize + 3 * size;

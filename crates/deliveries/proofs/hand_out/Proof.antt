@@ -63,8 +63,8 @@ use Rattle.device.proofs.Delivery.TheLaws as D'
 use Rattle.device.specs.contracts.Vector as Vec
 use Rattle.device.proofs.Vector.TheLaws as Vec'
 use Rattle.device.specs.declared.Delivery.{Delivery}
-use Rattle.device.specs.Sizes.{maxPeers}
-use Rattle.gate.specs.RingOutcome.{sentAt}
+use Rattle.device.specs.Sizes.{max_peers}
+use Rattle.gate.specs.RingOutcome.{sent_at}
 use Rattle.words.specs.contracts.sizes.Counts as K
 use Rattle.words.proofs.sizes.Counts.TheLaws as K'
 use Rattle.words.specs.contracts.counts_of as Counts-of
@@ -72,11 +72,11 @@ use Rattle.words.proofs.counts_of.Symbol as counts-of-def
 use Rattle.words.proofs.counts_of.Symbol.{name as #words·counts-of}
 use Rattle.words.proofs.counts_of.Met as counts-of-thm
 use Rattle.words.specs.declared.sizes.Counts.{Counts}
-use Rattle.words.specs.Layout.{hubOf}
+use Rattle.words.specs.Layout.{hub_of}
 use Rattle.deliveries.specs.declared.Deliveries.{Deliveries}
 use Rattle.deliveries.specs.contracts.Deliveries as L
 use Rattle.deliveries.proofs.Deliveries.TheLaws as L'
-use Rattle.deliveries.proofs.HandedOut.{Fits, filled, length-filled, filled_next, filled-all}
+use Rattle.deliveries.proofs.HandedOut.{Fits, filled, length_filled, filled_next, filled_all}
 use Rattle.deliveries.proofs.Lent.{Lent, lent, reference, machine, token, owning, reading, returned}
 use Rattle.deliveries.specs.contracts.sent_in as sent-in
 use Rattle.deliveries.proofs.sent_in.Symbol as sent-in-def
@@ -99,16 +99,16 @@ word = ty_int w64
 
 -- the targets, in a local
 abbrev Bytes : RattleType
-Bytes = Array u8 maxPeers
+Bytes = Array u8 max_peers
 
 abbrev bytes : Ty
-bytes = ty_array (ty_int w8) maxPeers
+bytes = ty_array (ty_int w8) max_peers
 
-abbrev hub-slice : Ty
-hub-slice = slice_ty (ty_ref (named 0) imm (ty_int w32))
+abbrev hub_slice : Ty
+hub_slice = slice_ty (ty_ref (named 0) imm (ty_int w32))
 
-abbrev table-slice : Ty
-table-slice = slice_ty (ty_ref (named 1) mut (pointee (D.the_row).written))
+abbrev table_slice : Ty
+table_slice = slice_ty (ty_ref (named 1) mut (pointee (D.the_row).written))
 
 -- the contracts that the proof cites
 abbrev Counted : {M : Type 1} {𝓤 : Ura M} (𝓛 : Logic 𝓤) (mem : Memory → SProp 𝓤) (run : Routine → Fun 𝓤) → Contract 𝓤
@@ -123,7 +123,7 @@ module _ {M : Type 1} {𝓤 : Ura M} (𝓛 : Logic 𝓤) (mem : Memory → SProp
   open 𝓛 use {H}
 
   abbrev zs : ℕ → List Delivery
-  zs i = filled (hubOf hub.now) list table.now i
+  zs i = filled (hub_of hub.now) list table.now i
 
   abbrev v : Val
   v = LL.val L.the_type L'.the_laws list
@@ -152,7 +152,7 @@ module _ {M : Type 1} {𝓤 : Ura M} (𝓛 : Logic 𝓤) (mem : Memory → SProp
       ∷ ‵ (token table) ∷ ‵ (token hub) ∷ ‵ (reading hub (named 0)) ∷ []
 
   same_length : length (zs list.count) ≡ length table.now
-  same_length = length-filled (hubOf hub.now) list table.now ok list.count (omega arith)
+  same_length = length_filled (hub_of hub.now) list table.now ok list.count (omega arith)
 
   count_fits : list.count < 2 ^ 64
   count_fits = (LL.owed L.the_type L'.the_laws list _ is-list).0.1
@@ -162,7 +162,7 @@ module _ {M : Type 1} {𝓤 : Ura M} (𝓛 : Logic 𝓤) (mem : Memory → SProp
       qed 𝓛 (Table (zs list.count)) ∵
       suffices ! _ (ends_at 𝓛 hand-out.ended stayed (hand-out.clauses 𝓛 mem run) bound (vint w64 list.count)
       list.count (tt, (zs list.count, (tt, tt))) (tt, (same_length, (tt, tt)))) $
-      says ! (filled-all (hubOf hub.now) list table.now ok, refl) $
+      says ! (filled_all (hub_of hub.now) list table.now ok, refl) $
       nothing ! $ move ! (3 ∷ 0 ∷ []) $ join ! $ move ! (3 ∷ 0 ∷ []) $ join ! $ frame ! $
       fjoin ! $ pure_i ! (mut_slice_at D.the_row (record {
         ref_ptr = (table.block, table.offset);
@@ -182,53 +182,53 @@ module _ {M : Type 1} {𝓤 : Ura M} (𝓛 : Logic 𝓤) (mem : Memory → SProp
   target i = get_or xs i 0
 
   abbrev one : ℕ → Delivery
-  one i = sentAt (hubOf hub.now) list.vector (target i)
+  one i = sent_at (hub_of hub.now) list.vector (target i)
 
-  abbrev xs-val : Val
-  xs-val = only (array_vals (uint_vals w8) xs)
+  abbrev xs_val : Val
+  xs_val = only (array_vals (uint_vals w8) xs)
 
-  xs-are : Is Bytes xs (xs-val ∷ [])
-  unfolding maxPeers
-  xs-are = (LL.owed L.the_type L'.the_laws list _ is-list).1.1.0
+  xs_are : Is Bytes xs (xs_val ∷ [])
+  unfolding max_peers
+  xs_are = (LL.owed L.the_type L'.the_laws list _ is-list).1.1.0
 
   -- the array in a local is its elements, side by side, and they are the array again
-  apart : (l : ℕ) → ent 𝓤 (H.at full_share bytes l 0 xs-val) (sem 𝓛 (row u8 full_share xs l 0))
+  apart : (l : ℕ) → ent 𝓤 (H.at full_share bytes l 0 xs_val) (sem 𝓛 (row u8 full_share xs l 0))
   unfolding part_of
   apart l =
-      qed 𝓛 (‵ (fat full_share bytes l 0 xs-val) ∷ []) ∵
-      owned ! Bytes (Is Bytes) (Array-Makes 𝓛 u8 (uint_Makes 𝓛 w8) maxPeers) xs _ xs-are $ move ! (1 ∷ 0 ∷ []) $ fjoin ! $
-      fpack ! (List Val) (λ vs. fsep (cell_at full_share Bytes.mir vs l 0) (Bytes.own xs vs)) (xs-val ∷ []) $
-      use1 𝓛 (‵ ((arr_parts (shares u8) maxPeers).part full_share xs l 0)) (Array-apart 𝓛 u8 full_share tt maxPeers xs l 0) $ fsplit ! $ drop ! $ done !
+      qed 𝓛 (‵ (fat full_share bytes l 0 xs_val) ∷ []) ∵
+      owned ! Bytes (Is Bytes) (Array-Makes 𝓛 u8 (uint_Makes 𝓛 w8) max_peers) xs _ xs_are $ move ! (1 ∷ 0 ∷ []) $ fjoin ! $
+      fpack ! (List Val) (λ vs. fsep (cell_at full_share Bytes.mir vs l 0) (Bytes.own xs vs)) (xs_val ∷ []) $
+      use1 𝓛 (‵ ((arr_parts (shares u8) max_peers).part full_share xs l 0)) (Array-apart 𝓛 u8 full_share tt max_peers xs l 0) $ fsplit ! $ drop ! $ done !
 
-  whole_again : (l : ℕ) → ent 𝓤 (sem 𝓛 (row u8 full_share xs l 0)) (H.at full_share bytes l 0 xs-val)
+  whole_again : (l : ℕ) → ent 𝓤 (sem 𝓛 (row u8 full_share xs l 0)) (H.at full_share bytes l 0 xs_val)
   unfolding part_of
   whole_again l =
-      qed 𝓛 (‵ (row u8 full_share xs l 0) ∷ []) ∵ feq_i ! ℕ (length xs) maxPeers xs-are.1.0.1 $ fjoin ! $
-      use1 𝓛 (‵ (part_at Bytes full_share xs l 0)) (Array-whole 𝓛 u8 full_share maxPeers xs l 0) $ fpick ! (λ vs. fsplit ! $
+      qed 𝓛 (‵ (row u8 full_share xs l 0) ∷ []) ∵ feq_i ! ℕ (length xs) max_peers xs_are.1.0.1 $ fjoin ! $
+      use1 𝓛 (‵ (part_at Bytes full_share xs l 0)) (Array-whole 𝓛 u8 full_share max_peers xs l 0) $ fpick ! (λ vs. fsplit ! $
       spelt ! Bytes (Is Bytes) (shows 𝓛 Bytes) (array_vals (uint_vals w8))
-      (Array-Tells u8 (uint_vals w8) (uint_Tells w8) maxPeers) full_share xs vs l 0 $ keep ! (0 ∷ []) $ done !)
+      (Array-Tells u8 (uint_vals w8) (uint_Tells w8) max_peers) full_share xs vs l 0 $ keep ! (0 ∷ []) $ done !)
 
-  vector-is : Is Vec.the_row list.vector (LL.vals Vec.the_type Vec'.the_laws list.vector)
-  vector-is = (LL.owed L.the_type L'.the_laws list _ is-list).1.0
+  vector_is : Is Vec.the_row list.vector (LL.vals Vec.the_type Vec'.the_laws list.vector)
+  vector_is = (LL.owed L.the_type L'.the_laws list _ is-list).1.0
 
   -- `counts_of` takes the hub, and its answer is the hub's numbers
-  abbrev to-counts : (Counted 𝓛 mem run).Ghost
-  to-counts = (((hub.lifetime, tt), (hub.share, tt), tt, (reference hub, tt), (machine hub ∷ [], tt)), tt)
+  abbrev to_counts : (Counted 𝓛 mem run).Ghost
+  to_counts = (((hub.lifetime, tt), (hub.share, tt), tt, (reference hub, tt), (machine hub ∷ [], tt)), tt)
 
-  goes-counts : ent 𝓤 (sep 𝓤 (sem 𝓛 (token hub)) (sem 𝓛 (reading hub (named 0)))) ((Counted 𝓛 mem run).pre to-counts)
-  goes-counts =
+  goes_counts : ent 𝓤 (sep 𝓤 (sem 𝓛 (token hub)) (sem 𝓛 (reading hub (named 0)))) ((Counted 𝓛 mem run).pre to_counts)
+  goes_counts =
       qed 𝓛 (‵ (token hub) ∷ ‵ (reading hub (named 0)) ∷ []) ∵ nothing ! $ nothing ! $ move ! (2 ∷ 0 ∷ []) $ join ! $
       nothing ! $ move ! (3 ∷ 0 ∷ []) $ fjoin ! $ move ! (1 ∷ 0 ∷ []) $ join ! $ frame ! $ done !
 
   abbrev Right : Counts → Type 0
-  Right c = (c.peers ≡ (hubOf hub.now).settings.peers) × (c.vectors ≡ (hubOf hub.now).settings.vectors)
+  Right c = (c.peers ≡ (hub_of hub.now).settings.peers) × (c.vectors ≡ (hub_of hub.now).settings.vectors)
 
   -- what `sent_in` is passed in a turn, and that the caller has what it asks
   abbrev passed : Counts → ℕ → Args sent-in.signature (hub.lifetime, tt)
   passed c i = (reference hub, (c.peers, (c.vectors, (target i, (list.vector, tt)))))
 
-  abbrev to-sent : Counts → ℕ → (Sent 𝓛 mem run).Ghost
-  to-sent c i = (
+  abbrev to_sent : Counts → ℕ → (Sent 𝓛 mem run).Ghost
+  to_sent c i = (
     (
       (hub.lifetime, tt),
       (hub.share, tt),
@@ -245,11 +245,11 @@ module _ {M : Type 1} {𝓤 : Ura M} (𝓛 : Logic 𝓤) (mem : Memory → SProp
     tt,
   )
 
-  goes-sent : (c : Counts) → Is K.the_row c (LL.vals K.the_type K'.the_laws c) → Right c → (i : ℕ) → Is u8 (target i) (vint w8 (target i) ∷ [])
-      → ent 𝓤 (sep 𝓤 (sem 𝓛 (token hub)) (sem 𝓛 (reading hub (named 0)))) ((Sent 𝓛 mem run).pre (to-sent c i))
-  goes-sent c is_c right i is =
+  goes_sent : (c : Counts) → Is K.the_row c (LL.vals K.the_type K'.the_laws c) → Right c → (i : ℕ) → Is u8 (target i) (vint w8 (target i) ∷ [])
+      → ent 𝓤 (sep 𝓤 (sem 𝓛 (token hub)) (sem 𝓛 (reading hub (named 0)))) ((Sent 𝓛 mem run).pre (to_sent c i))
+  goes_sent c is_c right i is =
       qed 𝓛 (‵ (token hub) ∷ ‵ (reading hub (named 0)) ∷ []) ∵ says ! right $ nothing ! $ move ! (1 ∷ 0 ∷ []) $ join ! $ frame ! $
-      nothing ! $ owned ! Vec.the_row (Is Vec.the_row) (LL.makes Vec.the_type Vec'.the_plain 𝓛) list.vector _ vector-is $ fjoin ! $
+      nothing ! $ owned ! Vec.the_row (Is Vec.the_row) (LL.makes Vec.the_type Vec'.the_plain 𝓛) list.vector _ vector_is $ fjoin ! $
       owned ! u8 (Is u8) (uint_Makes 𝓛 w8) (target i) _ is $ fjoin ! $
       owned ! usize (Is usize) (uint_Makes 𝓛 w64) c.vectors _ (LL.owed K.the_type K'.the_laws c _ is_c).1.0 $ fjoin ! $
       owned ! usize (Is usize) (uint_Makes 𝓛 w64) c.peers _ (LL.owed K.the_type K'.the_laws c _ is_c).0 $ fjoin ! $
@@ -265,7 +265,7 @@ module _ {M : Type 1} {𝓤 : Ura M} (𝓛 : Logic 𝓤) (mem : Memory → SProp
     Λ = 𝓣.Λ
 
     abbrev En : Env 𝓤 H
-    En = (word, l₀) ∷ (hub-slice, l₁) ∷ (table-slice, l₂) ∷ (L'.mir, l₃) ∷ (word, l₄) ∷ (Vec'.mir, l₅) ∷ (bytes, l₆)
+    En = (word, l₀) ∷ (hub_slice, l₁) ∷ (table_slice, l₂) ∷ (L'.mir, l₃) ∷ (word, l₄) ∷ (Vec'.mir, l₅) ∷ (bytes, l₆)
         ∷ (K'.mir, l₇) ∷ (word, l₈) ∷ (ty_bool, l₉) ∷ (D'.mir, l₁₀) ∷ (ty_ptr, l₁₁) ∷ (ty_ptr, l₁₂) ∷ (ty_int w8, l₁₃) ∷ (word, l₁₄)
         ∷ (ty_ptr, l₁₅) ∷ []
 
@@ -277,9 +277,9 @@ module _ {M : Type 1} {𝓤 : Ura M} (𝓛 : Logic 𝓤) (mem : Memory → SProp
         ∷ ‵ (fat full_share word l₈ 0 (vint w64 i)) ∷ ‵ (fat full_share K'.mir l₇ 0 (LL.val K.the_type K'.the_laws c))
         ∷ ‵ (fat full_share Vec'.mir l₅ 0 (LL.val Vec.the_type Vec'.the_laws list.vector))
         ∷ ‵ (fat full_share word l₄ 0 (vint w64 list.count)) ∷ ‵ (fat full_share L'.mir l₃ 0 v)
-        ∷ ‵ (fat full_share table-slice l₂ 0 (machine table)) ∷ ‵ (fat full_share hub-slice l₁ 0 (machine hub))
+        ∷ ‵ (fat full_share table_slice l₂ 0 (machine table)) ∷ ‵ (fat full_share hub_slice l₁ 0 (machine hub))
         ∷ ‵ (froom word l₀ 0)
-        ∷ ‵ (fdies word l₀) ∷ ‵ (fdies hub-slice l₁) ∷ ‵ (fdies table-slice l₂) ∷ ‵ (fdies L'.mir l₃) ∷ ‵ (fdies word l₄)
+        ∷ ‵ (fdies word l₀) ∷ ‵ (fdies hub_slice l₁) ∷ ‵ (fdies table_slice l₂) ∷ ‵ (fdies L'.mir l₃) ∷ ‵ (fdies word l₄)
         ∷ ‵ (fdies Vec'.mir l₅) ∷ ‵ (fdies bytes l₆) ∷ ‵ (fdies K'.mir l₇) ∷ ‵ (fdies word l₈)
         ∷ ‵ (fdies ty_bool l₉) ∷ ‵ (fdies D'.mir l₁₀) ∷ ‵ (fdies ty_ptr l₁₁) ∷ ‵ (fdies ty_ptr l₁₂) ∷ ‵ (fdies (ty_int w8) l₁₃)
         ∷ ‵ (fdies word l₁₄) ∷ ‵ (fdies ty_ptr l₁₅) ∷ []
@@ -297,8 +297,8 @@ module _ {M : Type 1} {𝓤 : Ura M} (𝓛 : Logic 𝓤) (mem : Memory → SProp
     abbrev Left : ℕ → ℕ → Type 0
     Left j i = list.count - j < list.count - i
 
-    left-wf : WellFounded Left
-    left-wf = InvImage.wf (λ (i : ℕ). list.count - i) lt-wf_rel.wf
+    left_wf : WellFounded Left
+    left_wf = InvImage.wf (λ (i : ℕ). list.count - i) lt-wf_rel.wf
 
     -- when the loop is left, the rest of the body runs
     abbrev Leaves : Out → SProp 𝓤
@@ -325,9 +325,9 @@ module _ {M : Type 1} {𝓤 : Ura M} (𝓛 : Logic 𝓤) (mem : Memory → SProp
         -- the record, made from the hub: the reference is copied, and one copy is passed
         move ! (5 ∷ []) $ use1 𝓛 (‵ (reading hub (named 0)) ⊛ ‵ (reading hub (named 0)))
         ((shr_slice_copy 𝓛 (named 0) hub.lifetime u32).twice (reference hub) (machine hub ∷ [])) $ split ! $
-        move ! (6 ∷ 0 ∷ []) $ use2 𝓛 (raw ((Sent 𝓛 mem run).pre (to-sent c i))) (goes-sent c is_c right i is-target) $
+        move ! (6 ∷ 0 ∷ []) $ use2 𝓛 (raw ((Sent 𝓛 mem run).pre (to_sent c i))) (goes_sent c is_c right i is-target) $
         -- [what `sent_in` asks; the hub; the targets; the table; the table's token; _15; …]
-        calls_at ! (fm_of 𝓤 H 𝓛.laws 𝓣) (Sent 𝓛 mem run) known (to-sent c i)
+        calls_at ! (fm_of 𝓤 H 𝓛.laws 𝓣) (Sent 𝓛 mem run) known (to_sent c i)
         (and_then ! (load ! (from ! (stop !)) (look ! 19 refl))
         (and_then ! (load ! (from ! (fld ! refl (stop !))) (look_in ! 14 (sub ! 0 refl (whole !))))
         (and_then ! (load ! (from ! (fld ! refl (stop !))) (look_in ! 14 (sub ! 1 refl (whole !))))
@@ -341,8 +341,8 @@ module _ {M : Type 1} {𝓤 : Ura M} (𝓛 : Logic 𝓤) (mem : Memory → SProp
         rewrite ! 11 (λ (d : Delivery). ‵ (fat full_share D'.mir l₁₀ 0 (LL.val D.the_type D'.the_laws d))) e refl $
         -- and into the table
         move ! (3 ∷ 4 ∷ 5 ∷ []) $
-        assigns ! (bin ! (load ! (from ! (stop !)) (look ! 13 refl)) (lit ! tt) (record { fits = at-fits })) (from ! (stop !))
-        (init ! 7 refl (tt, record { fits = at-fits })) $
+        assigns ! (bin ! (load ! (from ! (stop !)) (look ! 13 refl)) (lit ! tt) (record { fits = at_fits })) (from ! (stop !))
+        (init ! 7 refl (tt, record { fits = at_fits })) $
         assigns ! (bin ! (load ! (from ! (fld ! refl (stop !))) (look_in ! 18 (sub ! 0 refl (whole !))))
         (load ! (from ! (stop !)) (look ! 7 refl)) tt) (from ! (stop !)) (init ! 6 refl (tt, tt)) $
         -- (a record has 16 bytes)
@@ -352,7 +352,7 @@ module _ {M : Type 1} {𝓤 : Ura M} (𝓛 : Logic 𝓤) (mem : Memory → SProp
         (LL.tells D.the_type D'.the_laws) full_share (zs i) i (one i) table.block table.offset inside (λ _.
         -- [table[i]; what it owns; the others; the open borrow; obs; auth; the hub's token; the hub; the targets; _15; …]
         assigns ! (of_opd ! (load ! (from ! (stop !)) (look ! 14 refl))) (from ! (hop ! (look ! 9 refl) (stop !))) (store_raw ! 0 refl (one_typed r w e is)) $
-        move ! (1 ∷ []) $ drop ! $ owned ! D.the_row (Is D.the_row) (LL.makes D.the_type D'.the_plain 𝓛) (one i) _ (one-is r w e is) $
+        move ! (1 ∷ []) $ drop ! $ owned ! D.the_row (Is D.the_row) (LL.makes D.the_type D'.the_plain 𝓛) (one i) _ (one_is r w e is) $
         move ! (1 ∷ 0 ∷ []) $ elem_put ! D.the_row full_share (zs i) i (one i) (LL.vals D.the_type D'.the_laws (one i)) table.block table.offset inside $
         closes_slice ! tt D.the_row (zs i) (set (zs i) i (one i)) (length-set (zs i) i (one i)) table.block table.offset $
         assigns_last ! (bin ! (load ! (from ! (stop !)) (look ! 13 refl)) (lit ! tt) (record { fits = next_fits }))
@@ -368,22 +368,22 @@ module _ {M : Type 1} {𝓤 : Ura M} (𝓛 : Logic 𝓤) (mem : Memory → SProp
 
         written : set (zs i) i (one i) ≡ zs (i + 1)
         written =
-            ap (λ (t : ℕ). set (zs i) i (sentAt (hubOf hub.now) list.vector t)) (get_or-map u8-field.into list.targets i 0)
-            ∙ filled_next (hubOf hub.now) list table.now ok i small
+            ap (λ (t : ℕ). set (zs i) i (sent_at (hub_of hub.now) list.vector t)) (get_or-map u8-field.into list.targets i 0)
+            ∙ filled_next (hub_of hub.now) list table.now ok i small
 
-        at-fits : i * 16 < 2 ^ 64
-        at-fits = omega (arith, small, ok.room, table.room.1)
+        at_fits : i * 16 < 2 ^ 64
+        at_fits = omega (arith, small, ok.room, table.room.1)
 
         inside : i < length (zs i)
-        inside = rw (length-filled (hubOf hub.now) list table.now ok i (omega (arith, small))) (omega (arith, small, ok.room))
+        inside = rw (length_filled (hub_of hub.now) list table.now ok i (omega (arith, small))) (omega (arith, small, ok.room))
 
-        one-is : (r : Delivery) (w : Val) → r ≡ one i → Is D.the_row r (w ∷ []) → Is D.the_row (one i) (LL.vals D.the_type D'.the_laws (one i))
-        one-is r w e is = subst (λ (d : Delivery). Is D.the_row d (LL.vals D.the_type D'.the_laws d)) e
+        one_is : (r : Delivery) (w : Val) → r ≡ one i → Is D.the_row r (w ∷ []) → Is D.the_row (one i) (LL.vals D.the_type D'.the_laws (one i))
+        one_is r w e is = subst (λ (d : Delivery). Is D.the_row d (LL.vals D.the_type D'.the_laws d)) e
             (subst (Is D.the_row r) (LL.tells D.the_type D'.the_laws r _ is) is)
 
         one_typed : (r : Delivery) (w : Val) → r ≡ one i → Is D.the_row r (w ∷ []) →
             T (has_ty D'.mir (LL.val D.the_type D'.the_laws (one i))) × WT (LL.val D.the_type D'.the_laws (one i))
-        one_typed r w e is = ((LL.lawful D.the_type D'.the_laws 𝓛).typed (one i) _ (one-is r w e is)).0
+        one_typed r w e is = ((LL.lawful D.the_type D'.the_laws 𝓛).typed (one i) _ (one_is r w e is)).0
 
         within : i < length xs
         within = rw (length-map list.targets u8-field.into) (omega (arith, small, ok.few))
@@ -397,7 +397,7 @@ module _ {M : Type 1} {𝓤 : Ura M} (𝓛 : Logic 𝓤) (mem : Memory → SProp
         rewrite ! 12 (λ (t : Bool). ‵ (fat full_share ty_bool l₉ 0 (vbool t))) (le-ltb list.count list.count (omega arith)) refl $
         leaves_loop ! (load ! (from ! (stop !)) (look ! 12 refl)) $ exec ! C Λ En m.t-7 (at_ret En Post) $
         assigns ! (of_opd ! (load ! (from ! (stop !)) (look ! 16 refl))) (from ! (stop !)) (init ! 20 refl (tt, record { fits = count_fits })) $
-        returns ! (look ! 20 refl) $ use1 𝓛 (‵ (fat full_share bytes l₆ 0 xs-val)) (whole_again l₆) $ forget ! 0 refl $
+        returns ! (look ! 20 refl) $ use1 𝓛 (‵ (fat full_share bytes l₆ 0 xs_val)) (whole_again l₆) $ forget ! 0 refl $
         forget ! 12 refl $ forget ! 13 refl $ forget ! 14 refl $ forget ! 15 refl $ forget ! 16 refl $ forget ! 17 refl $
         forget ! 18 refl $ forget ! 19 refl $ forget ! 20 refl $
         move ! (20 ∷ 21 ∷ []) $ free1 ! $ move ! (19 ∷ 20 ∷ []) $ free1 ! $ move ! (18 ∷ 19 ∷ []) $ free1 ! $
@@ -414,15 +414,15 @@ module _ {M : Type 1} {𝓤 : Ura M} (𝓛 : Logic 𝓤) (mem : Memory → SProp
         let last : i ≡ list.count = omega (arith, bound, ltb-false i list.count e) in
         subst (λ (k : ℕ). Sq 𝓛 (At k) (runs C Λ En m.turn-1 (any_q (after_turn 𝓤 H (Below 𝓛 Left Inv i) Leaves)))) (sym last) (ends (Below 𝓛 Left Inv i))
 
-    loops-on : Sq 𝓛 (Inv 0) (runs C Λ En m.t-6 (at_ret En Post))
-    loops-on = first ! $ blocks ! $ loops ! 𝓣 Left left-wf Inv (λ i. learn ! (λ bound. drop ! $ turn i bound (ltb i list.count) refl)) 0
+    loops_on : Sq 𝓛 (Inv 0) (runs C Λ En m.t-6 (at_ret En Post))
+    loops_on = first ! $ blocks ! $ loops ! 𝓣 Left left_wf Inv (λ i. learn ! (λ bound. drop ! $ turn i bound (ltb i list.count) refl)) 0
 
   module _ (𝓣 : Tables 𝓤 H) (known-counts : Triple 𝓤 (𝓣.C #words·counts-of) (Counted 𝓛 mem run))
       (known : Triple 𝓤 (𝓣.C #deliveries·sent-in) (Sent 𝓛 mem run)) where
     walk : ent 𝓤 (on_entry 𝓛 hand-out.signature (hub.lifetime, (table.lifetime, tt)) (hub.share, (table.share, tt))
         (reference hub, (reference table, (list, tt))) (machine hub ∷ [], (machine table ∷ [], (v ∷ [], tt))))
         (WpFn 𝓤 H 𝓣.C 𝓣.Λ code.function (machine hub ∷ machine table ∷ v ∷ []) Post)
-    unfolding maxPeers
+    unfolding max_peers
     walk =
         qed 𝓛 ((‵ (token hub) ⊛ (‵ (token table) ⊛ ‵ ftrue))
         ∷ ‵ (fsep (reading hub (named 0)) (fsep (owning table (named 1)) (owns (L.the_row ∷ []) (list, tt) (v ∷ [], tt)))) ∷ []) ∵
@@ -435,21 +435,21 @@ module _ {M : Type 1} {𝓤 : Ura M} (𝓛 : Logic 𝓤) (mem : Memory → SProp
         alloc1 ! (λ l₁₀. alloc1 ! (λ l₁₁.
         alloc1 ! (λ l₁₂. alloc1 ! (λ l₁₃. alloc1 ! (λ l₁₄. alloc1 ! (λ l₁₅. alloc0 ! $ params1 ! $
         pass1 ! (init ! 28 refl (tt, (tt, (record { fits = hub.room.0 }, tt)))) $
-        pass1 ! (init ! 26 refl (tt, (tt, (record { fits = table.room.0 }, tt)))) $ pass1 ! (init ! 24 refl typed-list) $
+        pass1 ! (init ! 26 refl (tt, (tt, (record { fits = table.room.0 }, tt)))) $ pass1 ! (init ! 24 refl typed_list) $
         pass0 ! $
         assigns ! (of_opd ! (load ! (from ! (fld ! refl (stop !))) (look_in ! 24 (sub ! 0 refl (whole !))))) (from ! (stop !))
         (init ! 22 refl (tt, record { fits = count_fits })) $
         assigns ! (of_opd ! (load ! (from ! (fld ! refl (stop !))) (look_in ! 24 (sub ! 1 refl (whole !))))) (from ! (stop !))
-        (init ! 20 refl ((LL.lawful Vec.the_type Vec'.the_laws 𝓛).typed list.vector _ vector-is).0) $
+        (init ! 20 refl ((LL.lawful Vec.the_type Vec'.the_laws 𝓛).typed list.vector _ vector_is).0) $
         assigns ! (of_opd ! (load ! (from ! (fld ! refl (stop !))) (look_in ! 24 (sub ! 2 refl (whole !))))) (from ! (stop !))
-        (init ! 18 refl ((Array-Lawful 𝓛 u8 (uint_Lawful 𝓛 w8) maxPeers).typed xs _ xs-are).0) $
+        (init ! 18 refl ((Array-Lawful 𝓛 u8 (uint_Lawful 𝓛 w8) max_peers).typed xs _ xs_are).0) $
         -- [_15; …; _14; …; … _1; …; room for _0; …; the tokens; what the parameters own]
         move ! (33 ∷ []) $ fsplit ! $ move ! (1 ∷ []) $ fsplit ! $ fsplit ! $ drop ! $ fsplit ! $ move ! (36 ∷ []) $ split ! $ move ! (1 ∷ []) $ split ! $
         -- [the table's token; true; the hub's token; the table; what the list owns; the hub; _15; …]: the hub's numbers
         move ! (6 ∷ []) $ use1 𝓛 (‵ (reading hub (named 0)) ⊛ ‵ (reading hub (named 0)))
         ((shr_slice_copy 𝓛 (named 0) hub.lifetime u32).twice (reference hub) (machine hub ∷ [])) $ split ! $
-        move ! (4 ∷ 0 ∷ []) $ use2 𝓛 (raw ((Counted 𝓛 mem run).pre to-counts)) goes-counts $
-        calls_at ! (fm_of 𝓤 H 𝓛.laws 𝓣) (Counted 𝓛 mem run) known-counts to-counts
+        move ! (4 ∷ 0 ∷ []) $ use2 𝓛 (raw ((Counted 𝓛 mem run).pre to_counts)) goes_counts $
+        calls_at ! (fm_of 𝓤 H 𝓛.laws 𝓣) (Counted 𝓛 mem run) known-counts to_counts
         (and_then ! (load ! (from ! (stop !)) (look ! 35 refl)) (no_more !)) (λ w.
         returned ! tt K.the_row w Counts-of.ended (hub.lifetime, tt) (reference hub, tt) (‵ (token hub) ⊛ ‵ ftrue)
         (λ c _. Right c) (id⊢ 𝓤 _) (λ c _ right is. drop ! $ split ! $ move ! (1 ∷ []) $ drop ! $
@@ -461,18 +461,18 @@ module _ {M : Type 1} {𝓤 : Ura M} (𝓛 : Logic 𝓤) (mem : Memory → SProp
         use0 𝓛 (given (0 ≤ list.count) (‵ ftrue)) (guard_i 𝓤 (0 ≤ list.count) (emp 𝓤) (omega arith)) $
         keep ! (0 ∷ 1 ∷ 6 ∷ 7 ∷ 4 ∷ 2 ∷ 3 ∷ 9 ∷ 11 ∷ 13 ∷ 15 ∷ 17 ∷ 19 ∷ 21 ∷ 23 ∷ 25 ∷ 28 ∷ 30 ∷ 32 ∷ 34 ∷ 36 ∷ 38 ∷ 39 ∷ 37
         ∷ 35 ∷ 33 ∷ 31 ∷ 29 ∷ 27 ∷ 26 ∷ 24 ∷ 22 ∷ 20 ∷ 18 ∷ 16 ∷ 14 ∷ 12 ∷ 10 ∷ []) $
-        loops-on 𝓣 known c (subst (Is K.the_row c) (LL.tells K.the_type K'.the_laws c _ is) is) right l₀ l₁ l₂ l₃ l₄ l₅ l₆ l₇ l₈
+        loops_on 𝓣 known c (subst (Is K.the_row c) (LL.tells K.the_type K'.the_laws c _ is) is) right l₀ l₁ l₂ l₃ l₄ l₅ l₆ l₇ l₈
         l₉ l₁₀ l₁₁ l₁₂ l₁₃ l₁₄ l₁₅))))))))))))))))))
       where
-        typed-list : T (has_ty L'.mir v) × WT v
-        typed-list = ((LL.lawful L.the_type L'.the_laws 𝓛).typed list _ is-list).0
+        typed_list : T (has_ty L'.mir v) × WT v
+        typed_list = ((LL.lawful L.the_type L'.the_laws 𝓛).typed list _ is-list).0
 
 module _ {M : Type 1} {𝓤 : Ura M} (𝓛 : Logic 𝓤) (mem : Memory → SProp 𝓤) (run : Routine → Fun 𝓤) (𝓣 : Tables 𝓤 𝓛.H)
     (known-counts : Triple 𝓤 (𝓣.C #words·counts-of) (Counted 𝓛 mem run)) (known : Triple 𝓤 (𝓣.C #deliveries·sent-in) (Sent 𝓛 mem run)) where
   open 𝓛 use {H}
 
-  hand-out-walks : Walks 𝓛 hand-out.ended stayed (WpFn 𝓤 H 𝓣.C 𝓣.Λ code.function) (hand-out.clauses 𝓛 mem run)
-  hand-out-walks = walked 𝓛 hand-out.ended stayed (hand-out.clauses 𝓛 mem run) (WpFn 𝓤 H 𝓣.C 𝓣.Λ code.function)
+  hand_out_walks : Walks 𝓛 hand-out.ended stayed (WpFn 𝓤 H 𝓣.C 𝓣.Λ code.function) (hand-out.clauses 𝓛 mem run)
+  hand_out_walks = walked 𝓛 hand-out.ended stayed (hand-out.clauses 𝓛 mem run) (WpFn 𝓤 H 𝓣.C 𝓣.Λ code.function)
       (λ κs. (shr_slice_vals, (shr_slice_vals, (LL.vals L.the_type L'.the_laws, tt))))
       (λ κs. (
         shr_slice_Tells (named 0) κs.0 u32,
@@ -485,22 +485,22 @@ module _ {M : Type 1} {𝓤 : Ura M} (𝓛 : Logic 𝓤) (mem : Memory → SProp
       walk 𝓛 mem run (lent κs.0 qs.0 a.0 are.0.0.1) (lent κs.1.0 qs.1.0 a.1.0 are.1.0.0.1)
       a.1.1.0 (record { few = asked.0; room = asked.1 }) are.1.1.0 𝓣 known-counts known))
 
-  hand-out-meets : Meets 𝓛 hand-out.signature (WpFn 𝓤 H 𝓣.C 𝓣.Λ code.function) (hand-out.spec 𝓛 mem run)
-  hand-out-meets = walk_Meets 𝓛 hand-out.ended stayed (
+  hand_out_meets : Meets 𝓛 hand-out.signature (WpFn 𝓤 H 𝓣.C 𝓣.Λ code.function) (hand-out.spec 𝓛 mem run)
+  hand_out_meets = walk_Meets 𝓛 hand-out.ended stayed (
     Goes-none_slice 𝓛 2 (0 ∷ []) tt (plain (λ _. u32)) yes,
     (
       Goes-slice 𝓛 2 1 tt (plain (λ _. D.the_row)),
       (Goes-none 𝓛 2 (λ _. L.the_row) yes (λ κs x f. refl), tt),
     ),
   ) (hand-out.clauses 𝓛 mem run)
-      (WpFn 𝓤 H 𝓣.C 𝓣.Λ code.function) (WpFn-mono 𝓤 H 𝓛.laws 𝓣 code.function) hand-out-walks
+      (WpFn 𝓤 H 𝓣.C 𝓣.Λ code.function) (WpFn-mono 𝓤 H 𝓛.laws 𝓣 code.function) hand_out_walks
 
 pub hand-out-spec : {M : Type 1} → stated.statement M
 unfolding code.routine tables_of
 hand-out-spec 𝓤 𝓛 𝓜 𝓡 =
     entered 𝓤 𝓛.H (triple_of 𝓛 hand-out.signature (hand-out.spec 𝓛 𝓜.mem 𝓡.run))
     (tables 𝓤 𝓛.H 𝓜 𝓡 code.env).C (tables 𝓤 𝓛.H 𝓜 𝓡 code.env).Λ #deliveries·hand-out code.function (code.unfolded 𝓤 𝓛.H 𝓜 𝓡)
-    (hand-out-meets 𝓛 𝓜.mem 𝓡.run (tables_of 𝓤 𝓛.H 𝓜 (tables 𝓤 𝓛.H 𝓜 𝓡 code.env))
+    (hand_out_meets 𝓛 𝓜.mem 𝓡.run (tables_of 𝓤 𝓛.H 𝓜 (tables 𝓤 𝓛.H 𝓜 𝓡 code.env))
     (cited 𝓤 𝓛.H (Counted 𝓛 𝓜.mem 𝓡.run) 𝓜 𝓡 code.env #words·counts-of counts-of-def.routine
     code.calls-words::counts-of (counts-of-thm.met 𝓤 𝓛 𝓜 𝓡))
     (cited 𝓤 𝓛.H (Sent 𝓛 𝓜.mem 𝓡.run) 𝓜 𝓡 code.env #deliveries·sent-in sent-in-def.routine

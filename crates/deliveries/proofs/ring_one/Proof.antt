@@ -1,9 +1,9 @@
 -- `deliveries::ring_one` meets its contract: what the ring gave is what is listed.
 use mathlib.Core.Logic.{⊎_elim}
 use borrow.Author.Rules.{rules}
-use Rattle.device.specs.Sizes.{maxPeers}
-use Rattle.gate.proofs.RingLaws.{peer-below, reached}
-use Rattle.deliveries.proofs.ListedLaws.{id-byte, ring-lost, ring-sent}
+use Rattle.device.specs.Sizes.{max_peers}
+use Rattle.gate.proofs.RingLaws.{peer_below, reached}
+use Rattle.deliveries.proofs.ListedLaws.{id_byte, ring_lost, ring_sent}
 use Rattle.deliveries.proofs.ring_one.Statement.{statement}
 use Rattle.deliveries.proofs.ring_one.Tie as tie
 
@@ -17,16 +17,16 @@ same_length : tie.Need-same-length
 same_length c = search rules
 
 returns : tie.Need-returns
-unfolding maxPeers
+unfolding max_peers
 returns c =
     let c6 = c.before.before.before.before.before.before in
     let r = c.before.before.before.ring in
     let a = c6.args in (
       r.ensures.0,
       ⊎_elim
-          (λ w. ring-sent _ _ _ _ _ r.ensures.0 r.ensures.1 _ _ w.0.taken w.1
-          (id-byte _ (peer-below a.hub.now _ c6.requires (reached _ a.t a.v (rw w.0.taken at r.ensures.1)))))
-          (λ w. ring-lost _ _ _ _ _ r.ensures.0 r.ensures.1 _ _ w.0.left w.1)
+          (λ w. ring_sent _ _ _ _ _ r.ensures.0 r.ensures.1 _ _ w.0.taken w.1
+          (id_byte _ (peer_below a.hub.now _ c6.requires (reached _ a.t a.v (rw w.0.taken at r.ensures.1)))))
+          (λ w. ring_lost _ _ _ _ _ r.ensures.0 r.ensures.1 _ _ w.0.left w.1)
           c.if1.branch,
     )
 

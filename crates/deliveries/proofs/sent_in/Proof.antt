@@ -1,7 +1,7 @@
 -- `deliveries::sent_in` meets its contract: each part is the definition's.
 use borrow.Author.Rules.{rules}
-use Rattle.device.specs.Ring.{deliveryOf}
-use Rattle.gate.specs.RingOutcome.{sentAt}
+use Rattle.device.specs.Ring.{delivery_of}
+use Rattle.gate.specs.RingOutcome.{sent_at}
 use Rattle.deliveries.proofs.sent_in.Statement.{statement}
 use Rattle.deliveries.proofs.sent_in.Tie as tie
 
@@ -24,7 +24,7 @@ add-address : tie.Need-overflow-add-address
 add-address c = search rules
 
 returns : tie.Need-returns
-unfolding sentAt deliveryOf
+unfolding sent_at delivery_of
 returns c = rw c.before.before.entry-at.ensures
 
 pub sent-in-spec : {M : Type 1} → statement M

@@ -51,8 +51,8 @@ use Rattle.hub.specs.contracts.Served as S
 use Rattle.hub.proofs.Served.TheLaws as S'
 use Rattle.hub.specs.declared.Served.{Served}
 use Rattle.ivshmem.specs.Promises.{HandsOut}
-use Rattle.ivshmem.proofs.TableLaws.{register-write-room, can-hand-out, hands_out}
-use Rattle.ivshmem.proofs.LentTable.{lentOn, lentAgain, lends-on, reads-again, counted, Said, is-counted, HandOut, hands, goes-core, Had, ends}
+use Rattle.ivshmem.proofs.TableLaws.{register_write_room, can_hand_out, hands_out}
+use Rattle.ivshmem.proofs.LentTable.{lent_on, lent_again, lends_on, reads_again, counted, Said, is_counted, HandOut, hands, goes_core, Had, ends}
 use Rattle.ivshmem.specs.contracts.Counted as R
 use Rattle.ivshmem.proofs.Counted.TheLaws as R'
 use Rattle.ivshmem.specs.contracts.ivshmem_register_write.Key.{name as #ivshmem·ivshmem-register-write}
@@ -76,14 +76,14 @@ abbrev word : Ty
 word = ty_int w64
 
 abbrev act : ℕ → ℕ → ℕ → ℕ → Act
-act offset width value n = Act.registerWrite n offset width value
+act offset width value n = Act.register_write n offset width value
 
 module _ {M : Type 1} {𝓤 : Ura M} (𝓛 : Logic 𝓤) (mem : Memory → SProp 𝓤) (run : Routine → Fun 𝓤) where
   abbrev Core : Contract 𝓤
   Core = triple_of 𝓛 core.signature (core.spec 𝓛 mem run)
 
 module _ {M : Type 1} {𝓤 : Ura M} (𝓛 : Logic 𝓤) (mem : Memory → SProp 𝓤) (run : Routine → Fun 𝓤)
-    (hub : Lent u32) (region : Lent u8) (table : Lent D.the_row) (id offset width value : ℕ) (id-fits : id < 2 ^ 64)
+    (hub : Lent u32) (region : Lent u8) (table : Lent D.the_row) (id offset width value : ℕ) (id_fits : id < 2 ^ 64)
     (offset-fits : offset < 2 ^ 64) (width_fits : width < 2 ^ 64) (value-fits : value < 2 ^ 32) where
   open 𝓛 use {H}
 
@@ -114,10 +114,10 @@ module _ {M : Type 1} {𝓤 : Ura M} (𝓛 : Logic 𝓤) (mem : Memory → SProp
   -- what the triple of the call by value binds outside: the hub is lent on for the lifetime α under the name δ
   module _ (α : ℕ) (δ : GName) where
     abbrev passed : Args core.signature (α ∷ [], (region.lifetime, tt))
-    passed = (reference (lentOn hub α δ), (reference region, (length table.now, (id, (offset, (width, (value, tt)))))))
+    passed = (reference (lent_on hub α δ), (reference region, (length table.now, (id, (offset, (width, (value, tt)))))))
 
-    abbrev to-core : (Core 𝓛 mem run).Ghost
-    to-core = (
+    abbrev to_core : (Core 𝓛 mem run).Ghost
+    to_core = (
       (
         (α ∷ [], (region.lifetime, tt)),
         (full_share, (region.share, tt)),
@@ -145,15 +145,15 @@ module _ {M : Type 1} {𝓤 : Ura M} (𝓛 : Logic 𝓤) (mem : Memory → SProp
   abbrev numbers : Fml
   numbers = fsep (u64.own_val (length table.now) (vint w64 (length table.now) ∷ [])) ids
 
-  made-ids : ent 𝓤 (emp 𝓤) (sem 𝓛 ids)
-  made-ids =
+  made_ids : ent 𝓤 (emp 𝓤) (sem 𝓛 ids)
+  made_ids =
       qed 𝓛 [] ∵ nothing ! $ owned ! u32 (Is u32) (uint_Makes 𝓛 w32) value _ (refl, value-fits) $ fjoin ! $
       owned ! u64 (Is u64) (uint_Makes 𝓛 w64) width _ (refl, width_fits) $ fjoin ! $
       owned ! u64 (Is u64) (uint_Makes 𝓛 w64) offset _ (refl, offset-fits) $ fjoin ! $ owned ! u64 (Is u64)
-      (uint_Makes 𝓛 w64) id _ (refl, id-fits) $ fjoin ! $ done !
+      (uint_Makes 𝓛 w64) id _ (refl, id_fits) $ fjoin ! $ done !
 
   made : ent 𝓤 (emp 𝓤) (sem 𝓛 numbers)
-  made = qed 𝓛 [] ∵ use0 𝓛 (‵ ids) made-ids $ owned ! u64 (Is u64) (uint_Makes 𝓛 w64) (length table.now) _ (refl, table.room.0) $ fjoin ! $ done !
+  made = qed 𝓛 [] ∵ use0 𝓛 (‵ ids) made_ids $ owned ! u64 (Is u64) (uint_Makes 𝓛 w64) (length table.now) _ (refl, table.room.0) $ fjoin ! $ done !
 
   exits : (r : Served) (n : ℕ) (hub' region' : List ℕ) (table' : List Delivery) → Is R.the_row (counted r n)
       (LL.vals R.the_type R'.the_laws (counted r n)) → HandsOut hub.now hub' region.now region' table.now table' id
@@ -165,7 +165,7 @@ module _ {M : Type 1} {𝓤 : Ura M} (𝓛 : Logic 𝓤) (mem : Memory → SProp
       suffices ! _ (ends_at 𝓛 register-write.ended stayed (register-write.clauses 𝓛 mem run) bound
       (LL.val R.the_type R'.the_laws (counted r n)) (counted r n) (hub', (region', (table', (tt, (tt, (tt, (tt, tt)))))))
       (e₀, (e₁, (e₂, (tt, (tt, (tt, (tt, tt)))))))) $ says ! promised $
-      by ! (ends 𝓛 hub region table hub' region' table' ids made-ids (counted r n) is)
+      by ! (ends 𝓛 hub region table hub' region' table' ids made_ids (counted r n) is)
 
   module _ (C : Calls 𝓤 H) (Λ : Loops 𝓤 H) (fm : FmC 𝓤 H 𝓛.laws C)
       (known : Triple 𝓤 (C #hub·register-write) (Core 𝓛 mem run)) (known-hand : Triple 𝓤 (C #deliveries·hand-out)
@@ -189,7 +189,7 @@ module _ {M : Type 1} {𝓤 : Ura M} (𝓛 : Logic 𝓤) (mem : Memory → SProp
         pass1 ! (init ! 36 refl (tt, (tt, (record { fits = hub.room.0 }, tt)))) $
         pass1 ! (init ! 34 refl (tt, (tt, (record { fits = region.room.0 }, tt)))) $
         pass1 ! (init ! 32 refl (tt, (tt, (record { fits = table.room.0 }, tt)))) $
-        pass1 ! (init ! 30 refl (tt, record { fits = id-fits })) $
+        pass1 ! (init ! 30 refl (tt, record { fits = id_fits })) $
         pass1 ! (init ! 28 refl (tt, record { fits = offset-fits })) $
         pass1 ! (init ! 26 refl (tt, record { fits = width_fits })) $
         pass1 ! (init ! 24 refl (tt, record { fits = value-fits })) $ pass0 ! $
@@ -208,22 +208,22 @@ module _ {M : Type 1} {𝓤 : Ura M} (𝓛 : Logic 𝓤) (mem : Memory → SProp
         move ! (41 ∷ []) $ fsplit ! $ move ! (1 ∷ []) $ fsplit ! $ move ! (1 ∷ []) $ fsplit ! $ move ! (44 ∷ []) $ split ! $
         move ! (1 ∷ []) $ split ! $ move ! (1 ∷ []) $ split ! $
         -- [the table's token; true; the region's; the hub's; table; the numbers; region; hub; _19; …]
-        move ! (3 ∷ 7 ∷ []) $ lends-on ! tt hub (λ α δ. move ! (0 ∷ 5 ∷ 1 ∷ 8 ∷ []) $ join ! $
-        use3 𝓛 (raw ((Core 𝓛 mem run).pre (to-core α δ))) (goes-core 𝓛 (lentOn hub α δ) region table numbers made) $
+        move ! (3 ∷ 7 ∷ []) $ lends_on ! tt hub (λ α δ. move ! (0 ∷ 5 ∷ 1 ∷ 8 ∷ []) $ join ! $
+        use3 𝓛 (raw ((Core 𝓛 mem run).pre (to_core α δ))) (goes_core 𝓛 (lent_on hub α δ) region table numbers made) $
         -- [what the call asks; what is kept of the hub; the table's token; true; table; the numbers; _19; …]
-        calls_at ! fm (Core 𝓛 mem run) known (to-core α δ) (and_then ! (load ! (from ! (stop !)) (look ! 22 refl))
+        calls_at ! fm (Core 𝓛 mem run) known (to_core α δ) (and_then ! (load ! (from ! (stop !)) (look ! 22 refl))
         (and_then ! (load ! (from ! (stop !)) (look ! 18 refl)) (and_then ! (load ! (from ! (stop !)) (look ! 14 refl))
         (and_then ! (load ! (from ! (stop !)) (look ! 36 refl)) (and_then ! (load ! (from ! (stop !)) (look ! 34 refl))
         (and_then ! (load ! (from ! (stop !)) (look ! 32 refl)) (and_then ! (load ! (from ! (stop !)) (look ! 30 refl))
         (no_more !)))))))) (λ w.
         returned ! tt S.the_row w core.ended (α ∷ [], (region.lifetime, tt)) (passed α δ)
-        (‵ (token (lentOn hub α δ)) ⊛ (‵ (token region) ⊛ ‵ ftrue))
+        (‵ (token (lent_on hub α δ)) ⊛ (‵ (token region) ⊛ ‵ ftrue))
         (λ r zs. Said hub region table id (act offset width value) zs.0 zs.1.0 r) (id⊢ 𝓤 _) (λ r zs s is.
-        leaves ! (lentOn hub α δ) zs.0 (λ _. leaves ! region zs.1.0 (λ e₁.
+        leaves ! (lent_on hub α δ) zs.0 (λ _. leaves ! region zs.1.0 (λ e₁.
         -- [the numbers' part; the region's last list; the hub's; the tokens; what is kept of the hub; the table's token; true; table; the numbers; _19; …]
         land ! (from ! (stop !)) (init ! 31 refl ((LL.lawful S.the_type S'.the_laws 𝓛).typed r _ is).0) $
         rewrite ! 31 (λ (u : Val). ‵ (fat full_share S'.mir l₈ 0 u)) (ap only (LL.tells S.the_type S'.the_laws r _ is)) refl $
-        move ! (3 ∷ []) $ split ! $ move ! (0 ∷ 4 ∷ 5 ∷ []) $ reads-again ! tt hub α δ zs.0 (λ e₀ δ'.
+        move ! (3 ∷ []) $ split ! $ move ! (0 ∷ 4 ∷ 5 ∷ []) $ reads_again ! tt hub α δ zs.0 (λ e₀ δ'.
         -- [the hub's token; the hub; its last list; the region's token; …; its last list; the table's token; true; table; the numbers; _19; …]
         assigns ! (addr ! (from ! (fld ! refl (hop ! (look_in ! 46 (sub ! 0 refl (whole !))) (stop !))))) (from ! (stop !)) (init ! 16 refl (tt, tt)) $
         assigns ! (agg ! (and_then ! (load ! (from ! (stop !)) (look ! 16 refl))
@@ -234,9 +234,9 @@ module _ {M : Type 1} {𝓤 : Ura M} (𝓛 : Logic 𝓤) (mem : Memory → SProp
         assigns ! (agg ! (and_then ! (load ! (from ! (stop !)) (look ! 12 refl))
         (and_then ! (load ! (from ! (fld ! refl (stop !))) (look_in ! 42 (sub ! 1 refl (whole !)))) (no_more !))))
         (from ! (stop !)) (init ! 10 refl (tt, (tt, (record { fits = table.room.0 }, tt)))) $
-        move ! (0 ∷ 1 ∷ 6 ∷ 8 ∷ []) $ hands ! mem run (lentAgain hub zs.0 e₀ δ') table fm known-hand r w
-        (can-hand-out hub.now zs.0 region.now zs.1.0 id (act offset width value) r (length table.now)
-        (register-write-room offset width value) s) is (and_then ! (load ! (from ! (stop !)) (look ! 11 refl))
+        move ! (0 ∷ 1 ∷ 6 ∷ 8 ∷ []) $ hands ! mem run (lent_again hub zs.0 e₀ δ') table fm known-hand r w
+        (can_hand_out hub.now zs.0 region.now zs.1.0 id (act offset width value) r (length table.now)
+        (register_write_room offset width value) s) is (and_then ! (load ! (from ! (stop !)) (look ! 11 refl))
         (and_then ! (load ! (from ! (stop !)) (look ! 7 refl))
         (and_then ! (load ! (from ! (fld ! refl (stop !))) (look_in ! 29 (sub ! 1 refl (whole !)))) (no_more !))))
         (λ n w' table' h e₂ is'.
@@ -245,7 +245,7 @@ module _ {M : Type 1} {𝓤 : Ura M} (𝓛 : Logic 𝓤) (mem : Memory → SProp
         rewrite ! 28 (λ (u : Val). ‵ (fat full_share word l₉ 0 u)) (ap only is'.0) refl $
         assigns ! (agg ! (and_then ! (load ! (from ! (fld ! refl (stop !))) (look_in ! 30 (sub ! 0 refl (whole !))))
         (and_then ! (load ! (from ! (stop !)) (look ! 28 refl)) (no_more !)))) (from ! (stop !))
-        (init ! 46 refl ((LL.lawful R.the_type R'.the_laws 𝓛).typed (counted r n) _ (is-counted r n w is is'.1)).0) $
+        (init ! 46 refl ((LL.lawful R.the_type R'.the_laws 𝓛).typed (counted r n) _ (is_counted r n w is is'.1)).0) $
         returns ! (look ! 46 refl) $ forget ! 8 refl $ forget ! 10 refl $ forget ! 12 refl $ forget ! 14 refl $
         forget ! 16 refl $ forget ! 18 refl $ forget ! 20 refl $ forget ! 22 refl $ forget ! 24 refl $ forget ! 26 refl $
         forget ! 28 refl $ forget ! 30 refl $ forget ! 32 refl $ forget ! 34 refl $ forget ! 36 refl $ forget ! 38 refl $
@@ -259,7 +259,7 @@ module _ {M : Type 1} {𝓤 : Ura M} (𝓛 : Logic 𝓤) (mem : Memory → SProp
         move ! (14 ∷ 15 ∷ []) $ free1 ! $ move ! (12 ∷ 13 ∷ []) $ free1 ! $ move ! (10 ∷ 11 ∷ []) $ free1 ! $
         move ! (8 ∷ 9 ∷ []) $ free1 ! $ free0 ! $
         keep ! (0 ∷ 3 ∷ 2 ∷ 5 ∷ 1 ∷ []) $
-        by ! (exits r n zs.0 zs.1.0 table' (is-counted r n w is is'.1) (hands_out hub.now zs.0 region.now
+        by ! (exits r n zs.0 zs.1.0 table' (is_counted r n w is is'.1) (hands_out hub.now zs.0 region.now
         zs.1.0 id (act offset width value) r table.now table' n s h) e₀ e₁ e₂))))))))))))))))))))))))))))
 
 module _ {M : Type 1} {𝓤 : Ura M} (𝓛 : Logic 𝓤) (mem : Memory → SProp 𝓤) (run : Routine → Fun 𝓤) (𝓣 : Tables 𝓤 𝓛.H)

@@ -4,7 +4,7 @@ use mathlib.Core.List.{◌++◌}
 use mathlib.Core.Path.{◌≡◌, refl, sym, ap, ◌∙◌}
 use native.Mathlib.Omega.{arith}
 use lib.ListN.{length, length-set, drop, replicate}
-use Rattle.common.proofs.ListLaws.{filled_more, filled-all}
+use Rattle.common.proofs.ListLaws.{filled_more, filled_all}
 use Rattle.memory.proofs.clear.Statement.{statement}
 use Rattle.memory.proofs.clear.Tie as tie
 
@@ -41,7 +41,7 @@ same_length c = c.before.loop.invariant.1
 returns : tie.Need-returns invariant-loop decreases-loop
 returns c =
     let e : c.before.loop.k ≡ length c.before.before.args.region.now = omega arith in
-    c.before.loop.invariant.2 ∙ filled-all c.before.loop.k 0 c.before.before.args.region.now (sym e) ∙ ap (λ (n : ℕ). replicate n 0) e
+    c.before.loop.invariant.2 ∙ filled_all c.before.loop.k 0 c.before.before.args.region.now (sym e) ∙ ap (λ (n : ℕ). replicate n 0) e
 
 pub clear_spec : {M : Type 1} → statement M
 clear_spec =

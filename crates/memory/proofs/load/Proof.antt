@@ -4,7 +4,7 @@ use mathlib.Core.Path.{◌≡◌, refl, ap, ◌∙◌}
 use native.Mathlib.Omega.{arith}
 use lib.ListN.{length, length-set, drop}
 use lib.Seq.{paste, paste-zero}
-use Rattle.memory.proofs.PasteLaws.{load-turn, paste-full}
+use Rattle.memory.proofs.PasteLaws.{load_turn, paste_full}
 use Rattle.memory.proofs.load.Statement.{statement}
 use Rattle.memory.proofs.load.Tie as tie
 
@@ -39,7 +39,7 @@ loop-again c =
     let a = c.before.before.before.args in (
       omega arith,
       simp length-set (omega arith),
-      rw c.before.before.loop.invariant.2 (load-turn a.buffer.now a.region.now a.offset c.before.before.loop.k (omega arith) (omega arith)),
+      rw c.before.before.loop.invariant.2 (load_turn a.buffer.now a.region.now a.offset c.before.before.loop.k (omega arith) (omega arith)),
     )
 
 same_length : tie.Need-same-length invariant-loop decreases-loop
@@ -51,7 +51,7 @@ returns c =
     let e : c.before.loop.k ≡ length a.buffer.now = omega arith in
     c.before.loop.invariant.2
     ∙ ap (λ (n : ℕ). paste a.buffer.now 0 (drop a.offset a.region.now) n) e
-    ∙ paste-full a.buffer.now (drop a.offset a.region.now)
+    ∙ paste_full a.buffer.now (drop a.offset a.region.now)
 
 pub load_spec : {M : Type 1} → statement M
 load_spec =

@@ -3,9 +3,9 @@ use Prim.Native.Nat.{◌+◌, ◌*◌, ◌-◌}
 use mathlib.Core.Path.{◌≡◌}
 use native.Mathlib.Omega.{arith}
 use borrow.Author.Rules.{rules}
-use Rattle.common.proofs.ByteLaws.{length-bytes}
+use Rattle.common.proofs.ByteLaws.{length_bytes}
 use Rattle.common.specs.Bytes.{bytes}
-use Rattle.memory.proofs.PasteLaws.{part-back}
+use Rattle.memory.proofs.PasteLaws.{part_back}
 use Rattle.memory.proofs.put_state.Statement.{statement}
 use Rattle.memory.proofs.put_state.Tie as tie
 
@@ -35,7 +35,7 @@ returns c =
     let c5 = c.before.before.before.before.before in
     let a = c5.args in
     let n : 4 * a.id + 4 - 4 * a.id ≡ 4 = omega arith in
-    rw (c.before.before.put_word.ensures, n) (part-back a.region.now (bytes 4 a.value) (4 * a.id) 4 (length-bytes 4 a.value) c5.requires)
+    rw (c.before.before.put_word.ensures, n) (part_back a.region.now (bytes 4 a.value) (4 * a.id) 4 (length_bytes 4 a.value) c5.requires)
 
 pub put-state-spec : {M : Type 1} → statement M
 put-state-spec =

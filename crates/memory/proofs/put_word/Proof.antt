@@ -4,7 +4,7 @@ use mathlib.Core.Path.{◌≡◌, ◌∙◌}
 use native.Mathlib.Omega.{arith}
 use borrow.Author.Rules.{rules}
 use Rattle.common.specs.Bytes.{bytes}
-use Rattle.memory.proofs.PasteLaws.{four-stores}
+use Rattle.memory.proofs.PasteLaws.{four_stores}
 use Rattle.memory.proofs.put_word.Statement.{statement}
 use Rattle.memory.proofs.put_word.Tie as tie
 
@@ -41,7 +41,7 @@ returns c =
     let x = c.args.value in
     let e : x / 65536 ≡ x / 256 / 256 = omega arith in
     let f : x / 16777216 ≡ x / 256 / 256 / 256 = omega arith in
-    four-stores c.args.entry.now _ _ _ _ c.requires ∙ rw (e, f)
+    four_stores c.args.entry.now _ _ _ _ c.requires ∙ rw (e, f)
 
 pub put-word-spec : {M : Type 1} → statement M
 put-word-spec =

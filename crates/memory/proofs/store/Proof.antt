@@ -5,7 +5,7 @@ use native.Mathlib.Numerals.{add-one}
 use native.Mathlib.Omega.{arith}
 use lib.ListN.{length, length-set}
 use lib.Seq.{paste, paste-zero, paste-suc}
-use Rattle.memory.proofs.PasteLaws.{paste-whole}
+use Rattle.memory.proofs.PasteLaws.{paste_whole}
 use Rattle.memory.proofs.store.Statement.{statement}
 use Rattle.memory.proofs.store.Tie as tie
 
@@ -52,7 +52,7 @@ returns c =
     let e : c.before.loop.k ≡ length a.stored.now = omega arith in
     c.before.loop.invariant.2
     ∙ ap (λ (n : ℕ). paste a.region.now a.offset a.stored.now n) e
-    ∙ paste-whole a.region.now a.offset a.stored.now (omega arith)
+    ∙ paste_whole a.region.now a.offset a.stored.now (omega arith)
 
 pub store_spec : {M : Type 1} → statement M
 store_spec =

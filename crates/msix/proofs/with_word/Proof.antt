@@ -1,6 +1,6 @@
 -- `msix::with_word` meets its contract: each word is the definition's.
 use borrow.Author.Rules.{rules}
-use Rattle.device.specs.Msix.{withWord}
+use Rattle.device.specs.Msix.{with_word}
 use Rattle.msix.proofs.with_word.Statement.{statement}
 use Rattle.msix.proofs.with_word.Tie as tie
 
@@ -17,7 +17,7 @@ choose-requires-4 : tie.Need-choose-requires-4
 choose-requires-4 c κs = search rules
 
 returns : tie.Need-returns
-unfolding withWord
+unfolding with_word
 returns c = rw (c.before.before.before.choose.ensures, c.before.before.choose2.ensures, c.before.choose3.ensures, c.choose4.ensures)
 
 pub with-word-spec : {M : Type 1} → statement M

@@ -24,10 +24,10 @@ returns c = rw c.reported.ensures (
   c.before.before.refusal.ensures.0,
   (
     λ h. record {
-      hubKept = refl;
-      regionKept = refl;
-      heldKept = refl;
-      outKept = refl;
+      hub_kept = refl;
+      region_kept = refl;
+      held_kept = refl;
+      out_kept = refl;
       progress = refl;
       taken = refl;
       written = refl;

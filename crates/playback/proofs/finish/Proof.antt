@@ -7,9 +7,9 @@ use lib.ListN.{length}
 use borrow.Author.Rules.{rules}
 use borrow.Author.Tests.{ne_eqb, not-true, not-false}
 use Rattle.playback.proofs.LentLaws.{inside_is}
-use Rattle.playback.proofs.OverLaws.{nothing-over, one-over}
+use Rattle.playback.proofs.OverLaws.{nothing_over, one_over}
 use Rattle.playback.specs.Player.{inside}
-use Rattle.playback.specs.Promises.{playerIn}
+use Rattle.playback.specs.Promises.{player_in}
 use Rattle.playback.proofs.finish.Statement.{statement}
 use Rattle.playback.proofs.finish.Tie as tie
 
@@ -27,7 +27,7 @@ returns c =
       progress = refl;
       taken = refl;
       written = rw (ne_eqb _ _ c.before.if1.true)
-          (record { bytes = sym (nothing-over _); count = refl; fits = omega arith });
+          (record { bytes = sym (nothing_over _); count = refl; fits = omega arith });
     })
 
 reported-requires-2 : tie.Need-reported-requires-2
@@ -39,7 +39,7 @@ returns-2 c =
     let c5 = c4.before in
     let c10 = c5.before.before.before.before.before in
     let a = c10.args in
-    let e : inside (playerIn a.hub.now a.region.now a.held.now a.progress) ≡ false = inside_is a.hub.now
+    let e : inside (player_in a.hub.now a.region.now a.held.now a.progress) ≡ false = inside_is a.hub.now
     a.region.now a.held.now a.progress (c5.refusal.ensures.1 c4.if1.false).0
     ∙ not-true _ c.before.if2.true in
     rw c.reported2.ensures
@@ -47,7 +47,7 @@ returns-2 c =
       number = sym c4.if1.false ∙ c5.refusal.ensures.0;
       progress = refl;
       taken = refl;
-      written = rw e (record { bytes = sym (nothing-over _); count = refl; fits = omega arith });
+      written = rw e (record { bytes = sym (nothing_over _); count = refl; fits = omega arith });
     })
 
 slice-write-out : tie.Need-slice-write-out
@@ -67,14 +67,14 @@ returns-3 c =
     let a = c10.args in
     let r = c5.refusal.ensures.1 c4.if1.false in
     let some : 1 ≤ length a.out.now = omega (arith, r.1) in
-    let e : inside (playerIn a.hub.now a.region.now a.held.now a.progress) ≡ true = inside_is a.hub.now
+    let e : inside (player_in a.hub.now a.region.now a.held.now a.progress) ≡ true = inside_is a.hub.now
     a.region.now a.held.now a.progress r.0 ∙ not-false _ c.before.if2.false in
     rw c.reported3.ensures
     (record {
       number = sym c4.if1.false ∙ c5.refusal.ensures.0;
       progress = refl;
       taken = refl;
-      written = rw e (record { bytes = one-over a.out.now 0x84 some; count = refl; fits = some });
+      written = rw e (record { bytes = one_over a.out.now 0x84 some; count = refl; fits = some });
     })
 
 pub finish_spec : {M : Type 1} → statement M

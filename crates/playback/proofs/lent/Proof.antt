@@ -1,7 +1,7 @@
 -- `playback::lent` meets its contract: the test is the definition.
 use borrow.Author.Rules.{rules}
 use Rattle.common.specs.Tests.{every}
-use Rattle.playback.specs.Promises.{isLent}
+use Rattle.playback.specs.Promises.{is_lent}
 use Rattle.playback.proofs.lent.Statement.{statement}
 use Rattle.playback.proofs.lent.Tie as tie
 
@@ -15,7 +15,7 @@ hub-words-requires : tie.Need-hub-words-requires
 hub-words-requires c κs = search rules
 
 returns : tie.Need-returns
-unfolding isLent every
+unfolding is_lent every
 returns c =
     let c4 = c.before.before.before.before in
     let c5 = c4.before in

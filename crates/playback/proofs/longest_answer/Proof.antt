@@ -1,7 +1,7 @@
 -- `playback::longest_answer` meets its contract.
 use native.Mathlib.Omega.{arith}
 use borrow.Author.Rules.{rules}
-use Rattle.device.proofs.SizeLaws.{maxPeers-small}
+use Rattle.device.proofs.SizeLaws.{max_peers_small}
 use Rattle.playback.proofs.longest_answer.Statement.{statement}
 use Rattle.playback.proofs.longest_answer.Tie as tie
 
@@ -9,10 +9,10 @@ max-peers-requires : tie.Need-max-peers-requires
 max-peers-requires c κs = search rules
 
 mul-result : tie.Need-overflow-mul-result
-mul-result c = omega (arith, maxPeers-small, c.max-peers.ensures)
+mul-result c = omega (arith, max_peers_small, c.max-peers.ensures)
 
 add-result : tie.Need-overflow-add-result
-add-result c = omega (arith, maxPeers-small, c.max-peers.ensures)
+add-result c = omega (arith, max_peers_small, c.max-peers.ensures)
 
 returns : tie.Need-returns
 returns c = search rules

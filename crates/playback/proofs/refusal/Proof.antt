@@ -6,9 +6,9 @@ use native.Mathlib.Omega.{arith}
 use lib.Dec.{ltb}
 use borrow.Author.Rules.{rules}
 use borrow.Author.Tests.{not-true, not-false, lt-ltb, le-ltb}
-use Rattle.playback.proofs.LentLaws.{lent-facts, not-lent, no_room, no-refusal}
+use Rattle.playback.proofs.LentLaws.{lent_facts, not_lent, no_room, no_refusal}
 use Rattle.playback.specs.Answers.{longest}
-use Rattle.playback.specs.Promises.{isLent}
+use Rattle.playback.specs.Promises.{is_lent}
 use Rattle.playback.proofs.refusal.Statement.{statement}
 use Rattle.playback.proofs.refusal.Tie as tie
 
@@ -18,8 +18,8 @@ lent-requires c κs = search rules
 returns : tie.Need-returns
 returns c =
     let a = c.before.before.before.before.before.args in
-    let e : isLent a.hub.now a.region.now a.held.now a.p ≡ false = sym c.before.lent.ensures ∙ not-true _ c.if1.true in
-    (not-lent a.hub.now a.region.now a.held.now a.p a.room e, λ z. absurd (omega arith))
+    let e : is_lent a.hub.now a.region.now a.held.now a.p ≡ false = sym c.before.lent.ensures ∙ not-true _ c.if1.true in
+    (not_lent a.hub.now a.region.now a.held.now a.p a.room e, λ z. absurd (omega arith))
 
 longest-answer-requires : tie.Need-longest-answer-requires
 longest-answer-requires c κs = search rules
@@ -27,7 +27,7 @@ longest-answer-requires c κs = search rules
 returns-2 : tie.Need-returns-2
 returns-2 c =
     let a = c.before.before.before.before.before.before.before.args in
-    let e : isLent a.hub.now a.region.now a.held.now a.p ≡ true = sym c.before.before.before.lent.ensures
+    let e : is_lent a.hub.now a.region.now a.held.now a.p ≡ true = sym c.before.before.before.lent.ensures
     ∙ not-false _ c.before.before.if1.false in
     let l : ltb a.room longest ≡ true = lt-ltb _ _ (rw c.before.longest-answer.ensures at c.if2.true) in
     (no_room a.hub.now a.region.now a.held.now a.p a.room e l, λ z. absurd (omega arith))
@@ -35,11 +35,11 @@ returns-2 c =
 returns-3 : tie.Need-returns-3
 returns-3 c =
     let a = c.before.before.before.before.before.before.before.args in
-    let e : isLent a.hub.now a.region.now a.held.now a.p ≡ true = sym c.before.before.before.lent.ensures
+    let e : is_lent a.hub.now a.region.now a.held.now a.p ≡ true = sym c.before.before.before.lent.ensures
     ∙ not-false _ c.before.before.if1.false in
     let l : longest ≤ a.room = rw c.before.longest-answer.ensures at c.if2.false in (
-      no-refusal a.hub.now a.region.now a.held.now a.p a.room e (le-ltb _ _ l),
-      λ z. (lent-facts a.hub.now a.region.now a.held.now a.p e, l),
+      no_refusal a.hub.now a.region.now a.held.now a.p a.room e (le-ltb _ _ l),
+      λ z. (lent_facts a.hub.now a.region.now a.held.now a.p e, l),
     )
 
 pub refusal-spec : {M : Type 1} → statement M

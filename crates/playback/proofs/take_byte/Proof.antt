@@ -4,8 +4,8 @@ use native.Mathlib.Omega.{arith}
 use lib.ListN.{length-set}
 use lib.Seq.{length-take-le}
 use borrow.Author.Rules.{rules}
-use Rattle.playback.proofs.GoesLaws.{ignored-goes, held-goes, answered-goes}
-use Rattle.playback.proofs.HeldLaws.{record-whole}
+use Rattle.playback.proofs.GoesLaws.{ignored_goes, held_goes, answered_goes}
+use Rattle.playback.proofs.HeldLaws.{record_whole}
 use Rattle.playback.specs.Answers.{nowhere}
 use Rattle.playback.proofs.take_byte.Statement.{statement}
 use Rattle.playback.proofs.take_byte.Tie as tie
@@ -13,7 +13,7 @@ use Rattle.playback.proofs.take_byte.Tie as tie
 returns : tie.Need-returns
 returns c =
     let c5 = c.before.before.before.before.before in
-    ignored-goes c5.args.hub.now c5.args.region.now c5.args.held.now c5.args.out.now c5.args.p
+    ignored_goes c5.args.hub.now c5.args.region.now c5.args.held.now c5.args.out.now c5.args.p
     c5.args.byte c5.requires.0 c.if1.true
 
 slice-write-held : tie.Need-slice-write-held
@@ -34,7 +34,7 @@ same_length c = search rules
 returns-2 : tie.Need-returns-2
 returns-2 c =
     let c8 = c.before.before.before.before.before.before.before.before in
-    held-goes c8.args.hub.now c8.args.region.now c8.args.held.now c8.args.out.now c8.args.p
+    held_goes c8.args.hub.now c8.args.region.now c8.args.held.now c8.args.out.now c8.args.p
     c8.args.byte c8.requires.0 c.before.before.before.if1.false (rw c.before.length.ensures at c.if2.true)
 
 slice-reshare-prefix-answer : tie.Need-slice-reshare-prefix-answer
@@ -52,11 +52,11 @@ answer-requires c κs =
     let c12 = c5.before.before.before.before.before.before.before in
     let l = c12.requires.0 in
     let w = rw c5.length.ensures at c4.if2.false in (
-      (l.hubLength, l.regionLength),
+      (l.hub_length, l.region_length),
       (
         (l.words, l.bytes),
         (
-          record-whole nowhere c12.args.held.now c12.args.p.held c12.args.byte l.few w,
+          record_whole nowhere c12.args.held.now c12.args.p.held c12.args.byte l.few w,
           c12.requires.1,
         ),
       ),
@@ -81,7 +81,7 @@ returns-3 c =
     let c12 = c11.before in
     let c14 = c12.before.before in
     let c19 = c14.before.before.before.before.before in
-    answered-goes c19.args.hub.now c19.args.region.now c19.args.held.now c19.args.out.now c19.args.p
+    answered_goes c19.args.hub.now c19.args.region.now c19.args.held.now c19.args.out.now c19.args.p
     c19.args.byte c19.requires.0 _ _ _ _ _ c14.if1.false (rw c12.length.ensures at c11.if2.false)
     c6.answer.ensures
 

@@ -1,7 +1,7 @@
 -- `registers::value` meets its contract, arm by arm.
 use borrow.Author.Rules.{rules}
 use borrow.Author.Tests.{ne_eqb}
-use Rattle.device.specs.Registers.{registerAt, registerValue}
+use Rattle.device.specs.Registers.{register_at, register_value}
 use Rattle.registers.proofs.value.Statement.{statement}
 use Rattle.registers.proofs.value.Tie as tie
 
@@ -12,27 +12,27 @@ cast-result-2 : tie.Need-overflow-cast-result-2
 cast-result-2 c = search rules
 
 returns : tie.Need-returns
-unfolding registerAt registerValue
+unfolding register_at register_value
 returns c = (rw c.match.keys1, search rules)
 
 returns-2 : tie.Need-returns-2
-unfolding registerAt registerValue
+unfolding register_at register_value
 returns-2 c = (rw c.match.keys2, search rules)
 
 returns-3 : tie.Need-returns-3
-unfolding registerAt registerValue
+unfolding register_at register_value
 returns-3 c = (rw c.before.match.keys3, search rules)
 
 returns-4 : tie.Need-returns-4
-unfolding registerAt registerValue
+unfolding register_at register_value
 returns-4 c = (rw c.match.keys4, search rules)
 
 returns-5 : tie.Need-returns-5
-unfolding registerAt registerValue
+unfolding register_at register_value
 returns-5 c = (rw c.before.match.keys5, search rules)
 
 returns-6 : tie.Need-returns-6
-unfolding registerAt registerValue
+unfolding register_at register_value
 returns-6 c = (
   simp (
     ne_eqb _ _ c.match.rest.1,

@@ -1,6 +1,6 @@
 -- `sections::may_store` meets its contract, case by case.
 use borrow.Author.Rules.{rules}
-use Rattle.device.specs.Sections.{mayStore}
+use Rattle.device.specs.Sections.{may_store}
 use Rattle.sections.proofs.may_store.Statement.{statement}
 use Rattle.sections.proofs.may_store.Tie as tie
 
@@ -20,19 +20,19 @@ cast-result : tie.Need-overflow-cast-result
 cast-result c = search rules
 
 returns : tie.Need-returns
-unfolding mayStore
+unfolding may_store
 returns c = search rules
 
 returns-2 : tie.Need-returns-2
-unfolding mayStore
+unfolding may_store
 returns-2 c = search rules
 
 returns-3 : tie.Need-returns-3
-unfolding mayStore
+unfolding may_store
 returns-3 c = search rules
 
 returns-4 : tie.Need-returns-4
-unfolding mayStore
+unfolding may_store
 returns-4 c = rw c.before.before.kind.given.1
 
 pub may-store-spec : {M : Type 1} → statement M

@@ -4,16 +4,16 @@ use mathlib.Core.Path.{sym}
 use native.Mathlib.Nat.{div-mul-le_self}
 use native.Mathlib.Omega.{arith}
 use borrow.Author.Rules.{rules}
-use Rattle.device.proofs.SetUpLaws.{accepted-facts, table-small, common-small, output-small}
-use Rattle.device.proofs.SizeLaws.{maxPeers-small}
-use Rattle.sections.proofs.OutputLaws.{none_before, none-empty, none-past, none-cut, found}
+use Rattle.device.proofs.SetUpLaws.{accepted_facts, table_small, common_small, output_small}
+use Rattle.device.proofs.SizeLaws.{max_peers_small}
+use Rattle.sections.proofs.OutputLaws.{none_before, none_empty, none_past, none_cut, found}
 use Rattle.sections.proofs.output_of.Statement.{statement}
 use Rattle.sections.proofs.output_of.Tie as tie
 
 add-first : tie.Need-overflow-add-first
 add-first c =
-    let f = accepted-facts c.before.args.s c.before.requires.0 in
-    omega (arith, table-small _ f, common-small _ f)
+    let f = accepted_facts c.before.args.s c.before.requires.0 in
+    omega (arith, table_small _ f, common_small _ f)
 
 returns : tie.Need-returns
 returns c =
@@ -23,7 +23,7 @@ returns c =
 returns-2 : tie.Need-returns-2
 returns-2 c =
     let a = c.before.before.before.args in
-    sym (none-empty a.s a.offset a.length (omega arith) (omega arith))
+    sym (none_empty a.s a.offset a.length (omega arith) (omega arith))
 
 div-i : tie.Need-nonzero-div-i
 div-i c = search rules
@@ -31,7 +31,7 @@ div-i c = search rules
 returns-3 : tie.Need-returns-3
 returns-3 c =
     let a = c.before.before.before.before.before.args in
-    sym (none-past a.s a.offset a.length (omega arith) (omega arith))
+    sym (none_past a.s a.offset a.length (omega arith) (omega arith))
 
 mul-if4 : tie.Need-overflow-mul-if4
 mul-if4 c =
@@ -41,18 +41,18 @@ mul-if4 c =
 add-if4 : tie.Need-overflow-add-if4
 add-if4 c =
     let a = c.before.before.before.before.before.args in
-    let f = accepted-facts a.s c.before.before.before.before.before.requires.0 in
-    omega (arith, table-small _ f, common-small _ f, div-mul-le_self (a.offset - (a.s.table + a.s.common)) a.s.output)
+    let f = accepted_facts a.s c.before.before.before.before.before.requires.0 in
+    omega (arith, table_small _ f, common_small _ f, div-mul-le_self (a.offset - (a.s.table + a.s.common)) a.s.output)
 
 add-if4-2 : tie.Need-overflow-add-if4-2
 add-if4-2 c =
     let a = c.before.before.before.before.before.args in
-    let f = accepted-facts a.s c.before.before.before.before.before.requires.0 in
+    let f = accepted_facts a.s c.before.before.before.before.before.requires.0 in
     omega (
       arith,
-      table-small _ f,
-      common-small _ f,
-      output-small _ f,
+      table_small _ f,
+      common_small _ f,
+      output_small _ f,
       div-mul-le_self (a.offset - (a.s.table + a.s.common)) a.s.output,
     )
 
@@ -62,12 +62,12 @@ add-if4-3 c = search rules
 returns-4 : tie.Need-returns-4
 returns-4 c =
     let a = c.before.before.before.before.before.before.args in
-    sym (none-cut a.s a.offset a.length (omega arith) (omega arith))
+    sym (none_cut a.s a.offset a.length (omega arith) (omega arith))
 
 cast-t12 : tie.Need-overflow-cast-t12
 cast-t12 c =
-    let f = accepted-facts c.before.before.before.before.before.before.args.s c.before.before.before.before.before.before.requires.0 in
-    omega (arith, f.peers, maxPeers-small)
+    let f = accepted_facts c.before.before.before.before.before.before.args.s c.before.before.before.before.before.before.requires.0 in
+    omega (arith, f.peers, max_peers_small)
 
 returns-5 : tie.Need-returns-5
 returns-5 c =

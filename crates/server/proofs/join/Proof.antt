@@ -2,8 +2,8 @@
 use mathlib.Core.Path.{sym, ◌∙◌}
 use lib.ListN.{length}
 use Rattle.reader.specs.Sizes.{ids}
-use Rattle.server.proofs.FreeLaws.{lowest-is-free}
-use Rattle.server.proofs.ServeLaws.{serves-refused, join-refused, join-goes-on, in-range, has_room, joins-free, joins-full}
+use Rattle.server.proofs.FreeLaws.{lowest_is_free}
+use Rattle.server.proofs.ServeLaws.{serves_refused, join_refused, join_goes_on, in_range_lem, has_room, joins_free, joins_full}
 use Rattle.server.specs.Serving.{refusal}
 use borrow.Author.Rules.{rules}
 use Rattle.server.proofs.join.Statement.{statement}
@@ -22,7 +22,7 @@ returns c =
     let s = c4.args.server in
     let l = c4.args.out.now in
     let e = c2.refusal.ensures in
-    rw (join-refused s (length l) (λ z. c.before.if1.true (e ∙ z)), c.refused.ensures, e) (serves-refused (refusal s (length l)) s l)
+    rw (join_refused s (length l) (λ z. c.before.if1.true (e ∙ z)), c.refused.ensures, e) (serves_refused (refusal s (length l)) s l)
 
 lowest-free-requires : tie.Need-lowest-free-requires
 lowest-free-requires c κs = search rules
@@ -35,7 +35,7 @@ join-as-requires c κs =
     let e = c.before.before.before.before.refusal.ensures in
     let z = sym e ∙ c.before.before.before.if1.false in
     let f = c.before.before.lowest-free.ensures in
-    (in-range s (length l) z, c.before.if2.true, rw f (lowest-is-free s.joined).free, has_room s (length l) z)
+    (in_range_lem s (length l) z, c.before.if2.true, rw f (lowest_is_free s.joined).free, has_room s (length l) z)
 
 same_length : tie.Need-same-length
 same_length c = search rules
@@ -54,7 +54,7 @@ returns-2 c =
     let e = c7.refusal.ensures in
     let z = sym e ∙ c6.if1.false in
     let f = c5.lowest-free.ensures in
-    rw (join-goes-on s (length l) z, joins-free s (rw f at c4.if2.true)) (rw f at c2.join-as.ensures)
+    rw (join_goes_on s (length l) z, joins_free s (rw f at c4.if2.true)) (rw f at c2.join-as.ensures)
 
 refused-requires-2 : tie.Need-refused-requires-2
 refused-requires-2 c κs = search rules
@@ -70,8 +70,8 @@ returns-3 c =
     let l = c6.args.out.now in
     let e = c4.refusal.ensures in
     let z = sym e ∙ c3.if1.false in
-    rw (join-goes-on s (length l) z, joins-full s (rw c2.lowest-free.ensures at c.before.if2.false), c.refused2.ensures)
-    (serves-refused 12 s l)
+    rw (join_goes_on s (length l) z, joins_full s (rw c2.lowest-free.ensures at c.before.if2.false), c.refused2.ensures)
+    (serves_refused 12 s l)
 
 pub join-spec : {M : Type 1} → statement M
 join-spec =

@@ -1,7 +1,7 @@
 -- `server::leave` meets its contract.
 use mathlib.Core.Path.{sym, ◌∙◌}
 use lib.ListN.{length}
-use Rattle.server.proofs.ServeLaws.{serves-refused, leave-refused, leave-goes-on, has_room, leaves-joined, leaves_free}
+use Rattle.server.proofs.ServeLaws.{serves_refused, leave_refused, leave_goes_on, has_room, leaves_joined, leaves_free}
 use Rattle.server.specs.Serving.{refusal}
 use borrow.Author.Rules.{rules}
 use Rattle.server.proofs.leave.Statement.{statement}
@@ -20,8 +20,8 @@ returns c =
     let s = c4.args.server in
     let l = c4.args.out.now in
     let e = c2.refusal.ensures in
-    rw (leave-refused s (length l) c4.args.id (λ z. c.before.if1.true (e ∙ z)), c.refused.ensures, e)
-    (serves-refused (refusal s (length l)) s l)
+    rw (leave_refused s (length l) c4.args.id (λ z. c.before.if1.true (e ∙ z)), c.refused.ensures, e)
+    (serves_refused (refusal s (length l)) s l)
 
 is-joined-requires : tie.Need-is-joined-requires
 is-joined-requires c κs = search rules
@@ -50,7 +50,7 @@ returns-2 c =
     let e = c7.refusal.ensures in
     let z = sym e ∙ c6.if1.false in
     let id = c9.args.id in
-    rw (leave-goes-on s (length l) id z, leaves-joined s id (sym c5.is-joined.ensures ∙ c4.if2.true)) c2.leave-as.ensures
+    rw (leave_goes_on s (length l) id z, leaves_joined s id (sym c5.is-joined.ensures ∙ c4.if2.true)) c2.leave-as.ensures
 
 refused-requires-2 : tie.Need-refused-requires-2
 refused-requires-2 c κs = search rules
@@ -66,8 +66,8 @@ returns-3 c =
     let e = c4.refusal.ensures in
     let z = sym e ∙ c3.if1.false in
     let id = c6.args.id in
-    rw (leave-goes-on s (length l) id z, leaves_free s id (sym c2.is-joined.ensures ∙ c.before.if2.false), c.refused2.ensures)
-    (serves-refused 4 s l)
+    rw (leave_goes_on s (length l) id z, leaves_free s id (sym c2.is-joined.ensures ∙ c.before.if2.false), c.refused2.ensures)
+    (serves_refused 4 s l)
 
 pub leave_spec : {M : Type 1} → statement M
 leave_spec =

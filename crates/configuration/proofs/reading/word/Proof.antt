@@ -6,8 +6,8 @@ use native.Mathlib.Omega.{arith}
 use borrow.Author.Rules.{rules}
 use Rattle.common.specs.Tests.{below}
 use Rattle.common.proofs.WordLaws.{low_word, high_word, whole_word}
-use Rattle.device.specs.Configuration.{fields, fieldByte, configurationByte, configurationRead}
-use Rattle.configuration.proofs.ReadLaws.{two-halves, no_word}
+use Rattle.device.specs.Configuration.{fields, field_byte, configuration_byte, configuration_read}
+use Rattle.configuration.proofs.ReadLaws.{two_halves, no_word}
 use Rattle.configuration.proofs.reading.word.Statement.{statement}
 use Rattle.configuration.proofs.reading.word.Tie as tie
 
@@ -52,75 +52,75 @@ with-last-requires-2 : tie.Need-with-last-requires-2
 with-last-requires-2 c κs = search rules
 
 returns : tie.Need-returns
-unfolding configurationRead configurationByte fieldByte fields
+unfolding configuration_read configuration_byte field_byte fields
 returns c = rw c.match.keys1
 
 returns-2 : tie.Need-returns-2
-unfolding configurationRead configurationByte fieldByte fields
-returns-2 c = rw (c.halves.ensures, c.before.before.match.keys2) (two-halves _ 0x0010)
+unfolding configuration_read configuration_byte field_byte fields
+returns-2 c = rw (c.halves.ensures, c.before.before.match.keys2) (two_halves _ 0x0010)
 
 returns-3 : tie.Need-returns-3
-unfolding configurationRead configurationByte fieldByte fields
+unfolding configuration_read configuration_byte field_byte fields
 returns-3 c = rw c.before.match.keys3 (omega arith)
 
 returns-4 : tie.Need-returns-4
-unfolding configurationRead configurationByte fieldByte fields
+unfolding configuration_read configuration_byte field_byte fields
 returns-4 c = rw c.before.match.keys4 (whole_word c.before.before.args.p.bar0 (omega arith))
 
 returns-5 : tie.Need-returns-5
-unfolding configurationRead configurationByte fieldByte fields
+unfolding configuration_read configuration_byte field_byte fields
 returns-5 c = rw c.before.match.keys5 (whole_word c.before.before.args.p.bar1 (omega arith))
 
 returns-6 : tie.Need-returns-6
-unfolding configurationRead configurationByte fieldByte fields
-returns-6 c = rw (c.halves2.ensures, c.before.match.keys6) (two-halves _ _)
+unfolding configuration_read configuration_byte field_byte fields
+returns-6 c = rw (c.halves2.ensures, c.before.match.keys6) (two_halves _ _)
 
 returns-7 : tie.Need-returns-7
-unfolding configurationRead configurationByte fieldByte fields
+unfolding configuration_read configuration_byte field_byte fields
 returns-7 c = rw c.match.keys7
 
 returns-8 : tie.Need-returns-8
-unfolding configurationRead configurationByte fieldByte fields
+unfolding configuration_read configuration_byte field_byte fields
 returns-8 c = rw c.before.match.keys8 (omega arith)
 
 returns-9 : tie.Need-returns-9
-unfolding configurationRead configurationByte fieldByte fields
+unfolding configuration_read configuration_byte field_byte fields
 returns-9 c = rw c.before.match.keys9 (low_word c.before.before.args.s.table)
 
 returns-10 : tie.Need-returns-10
-unfolding configurationRead configurationByte fieldByte fields
+unfolding configuration_read configuration_byte field_byte fields
 returns-10 c = rw c.before.match.keys10 (low_word c.before.before.args.s.common)
 
 returns-11 : tie.Need-returns-11
-unfolding configurationRead configurationByte fieldByte fields
+unfolding configuration_read configuration_byte field_byte fields
 returns-11 c = rw c.before.match.keys11 (high_word c.before.before.args.s.common (omega arith))
 
 returns-12 : tie.Need-returns-12
-unfolding configurationRead configurationByte fieldByte fields
+unfolding configuration_read configuration_byte field_byte fields
 returns-12 c = rw c.before.match.keys12 (low_word c.before.before.args.s.output)
 
 returns-13 : tie.Need-returns-13
-unfolding configurationRead configurationByte fieldByte fields
+unfolding configuration_read configuration_byte field_byte fields
 returns-13 c = rw c.before.match.keys13 (high_word c.before.before.args.s.output (omega arith))
 
 returns-14 : tie.Need-returns-14
-unfolding configurationRead configurationByte fieldByte fields
+unfolding configuration_read configuration_byte field_byte fields
 returns-14 c = rw c.before.match.keys14 (low_word c.before.before.args.s.base)
 
 returns-15 : tie.Need-returns-15
-unfolding configurationRead configurationByte fieldByte fields
+unfolding configuration_read configuration_byte field_byte fields
 returns-15 c = rw c.before.match.keys15 (high_word c.before.before.args.s.base (omega arith))
 
 returns-16 : tie.Need-returns-16
-unfolding configurationRead configurationByte fieldByte fields
+unfolding configuration_read configuration_byte field_byte fields
 returns-16 c = rw c.before.before.match.keys16 (omega arith)
 
 returns-17 : tie.Need-returns-17
-unfolding configurationRead configurationByte fieldByte fields
+unfolding configuration_read configuration_byte field_byte fields
 returns-17 c = rw c.match.keys17
 
 returns-18 : tie.Need-returns-18
-unfolding configurationRead configurationByte fieldByte fields
+unfolding configuration_read configuration_byte field_byte fields
 returns-18 c = rw c.match.keys18
 
 returns-19 : tie.Need-returns-19

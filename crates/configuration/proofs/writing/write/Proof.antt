@@ -1,7 +1,7 @@
 -- `configuration::writing::write` meets its contract: the write of the word, in the lanes of the access, is the write of its bytes.
 use mathlib.Core.Path.{sym}
 use native.Mathlib.Omega.{arith}
-use Rattle.configuration.proofs.WriteLaws.{written-word}
+use Rattle.configuration.proofs.WriteLaws.{written_word}
 use borrow.Author.Rules.{rules}
 use Rattle.configuration.proofs.writing.write.Statement.{statement}
 use Rattle.configuration.proofs.writing.write.Tie as tie
@@ -25,7 +25,7 @@ returns : tie.Need-returns
 returns c =
     let a = c.before.before.args in
     rw (c.write_word.ensures, c.before.enabled.ensures)
-    (sym (written-word a.s a.p a.at a.width a.value c.before.before.requires (omega arith) (omega arith) (omega arith)))
+    (sym (written_word a.s a.p a.at a.width a.value c.before.before.requires (omega arith) (omega arith) (omega arith)))
 
 pub write_spec : {M : Type 1} → statement M
 write_spec =

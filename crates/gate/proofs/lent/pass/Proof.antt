@@ -44,8 +44,8 @@ use Rattle.device.specs.declared.Gate.{Gate}
 use Rattle.device.specs.Ring.{opens}
 use Rattle.device.specs.contracts.Gate as G
 use Rattle.device.proofs.Gate.TheLaws as G'
-use Rattle.gate.specs.PassedGate.{passedGate}
-use Rattle.gate.proofs.GateValue.{gateVal, gate-is, gate-typed, gate-makes}
+use Rattle.gate.specs.PassedGate.{passed_gate}
+use Rattle.gate.proofs.GateValue.{gate_val, gate_is, gate_typed, gate_makes}
 use Rattle.gate.specs.contracts.switches.passed_gate as after
 use Rattle.gate.proofs.switches.passed_gate.Symbol as after-def
 use Rattle.gate.proofs.switches.passed_gate.Symbol.{name as #after}
@@ -70,13 +70,13 @@ module _ {M : Type 1} {𝓤 : Ura M} (𝓛 : Logic 𝓤) (at_mem : Memory → SP
   abbrev Answer : Contract 𝓤
   Answer = triple_of 𝓛 answer.signature (answer.spec 𝓛 at_mem run)
 
-  after-said : (h r : Gate)
-      → ent 𝓤 (ensured 𝓛 after.ended (after.clauses 𝓛 at_mem run) tt (h, tt) tt r) (fact 𝓤 (r ≡ passedGate h))
-  after-said h r = ex_e 𝓤 _ (λ ws. snd∗ 𝓤 (sem 𝓛 (lasts after.ended tt (h, tt) ws)) (fact 𝓤 (r ≡ passedGate h)))
+  after_said : (h r : Gate)
+      → ent 𝓤 (ensured 𝓛 after.ended (after.clauses 𝓛 at_mem run) tt (h, tt) tt r) (fact 𝓤 (r ≡ passed_gate h))
+  after_said h r = ex_e 𝓤 _ (λ ws. snd∗ 𝓤 (sem 𝓛 (lasts after.ended tt (h, tt) ws)) (fact 𝓤 (r ≡ passed_gate h)))
 
-  answer-said : (h : Gate) (r : Bool)
+  answer_said : (h : Gate) (r : Bool)
       → ent 𝓤 (ensured 𝓛 answer.ended (answer.clauses 𝓛 at_mem run) tt (h, tt) tt r) (fact 𝓤 (r ≡ opens h))
-  answer-said h r = ex_e 𝓤 _ (λ ws. snd∗ 𝓤 (sem 𝓛 (lasts answer.ended tt (h, tt) ws)) (fact 𝓤 (r ≡ opens h)))
+  answer_said h r = ex_e 𝓤 _ (λ ws. snd∗ 𝓤 (sem 𝓛 (lasts answer.ended tt (h, tt) ws)) (fact 𝓤 (r ≡ opens h)))
 
 module _ {M : Type 1} {𝓤 : Ura M} (𝓛 : Logic 𝓤) (at_mem : Memory → SProp 𝓤)
     (run : Routine → Fun 𝓤) (κ : Lft) (q : Share) (b o : ℕ) (γ : GName) (h : Gate) where
@@ -92,7 +92,7 @@ module _ {M : Type 1} {𝓤 : Ura M} (𝓛 : Logic 𝓤) (at_mem : Memory → SP
   Post = (walk_of 𝓛 pass.ended stayed (pass.clauses 𝓛 at_mem run)).post (((κ, tt), (q, tt), tt, x, at), tt)
 
   -- at exit: the gate that stands there, and the answer
-  exits : (r : Gate) (t : Bool) (v : Val) → (t ≡ opens h) × (r ≡ passedGate h)
+  exits : (r : Gate) (t : Bool) (v : Val) → (t ≡ opens h) × (r ≡ passed_gate h)
       → ent 𝓤 (⋆ 𝓛 (‵ (fobs γ ((G.the_row).coded.code r)) ∷ ‵ (fbor κ (Body (mem G.the_row) b o γ)) ∷ ‵ (flft κ q)
       ∷ ‵ (bool.own_val t (v ∷ [])) ∷ [])) (Post v)
   exits r t v e =
@@ -102,17 +102,17 @@ module _ {M : Type 1} {𝓤 : Ura M} (𝓛 : Logic 𝓤) (at_mem : Memory → SP
       nothing ! $ move ! (1 ∷ 0 ∷ []) $ fjoin ! $ done !
 
   -- what each callee is passed, and that it asks nothing else
-  abbrev to-after : (After 𝓛 at_mem run).Ghost
-  to-after = ((tt, tt, tt, (h, tt), (gateVal h ∷ [], tt)), tt)
+  abbrev to_after : (After 𝓛 at_mem run).Ghost
+  to_after = ((tt, tt, tt, (h, tt), (gate_val h ∷ [], tt)), tt)
 
-  goes_after : ent 𝓤 (sem 𝓛 ((G.the_row).own_val h (gateVal h ∷ []))) ((After 𝓛 at_mem run).pre to-after)
-  goes_after = qed 𝓛 (‵ ((G.the_row).own_val h (gateVal h ∷ [])) ∷ []) ∵ nothing ! $ move ! (1 ∷ 0 ∷ []) $ join ! $ nothing ! $ join ! $ frame ! $ done !
+  goes_after : ent 𝓤 (sem 𝓛 ((G.the_row).own_val h (gate_val h ∷ []))) ((After 𝓛 at_mem run).pre to_after)
+  goes_after = qed 𝓛 (‵ ((G.the_row).own_val h (gate_val h ∷ [])) ∷ []) ∵ nothing ! $ move ! (1 ∷ 0 ∷ []) $ join ! $ nothing ! $ join ! $ frame ! $ done !
 
-  abbrev to-answer : (Answer 𝓛 at_mem run).Ghost
-  to-answer = ((tt, tt, tt, (h, tt), (gateVal h ∷ [], tt)), tt)
+  abbrev to_answer : (Answer 𝓛 at_mem run).Ghost
+  to_answer = ((tt, tt, tt, (h, tt), (gate_val h ∷ [], tt)), tt)
 
-  goes-answer : ent 𝓤 (sem 𝓛 ((G.the_row).own_val h (gateVal h ∷ []))) ((Answer 𝓛 at_mem run).pre to-answer)
-  goes-answer = qed 𝓛 (‵ ((G.the_row).own_val h (gateVal h ∷ [])) ∷ []) ∵ nothing ! $ move ! (1 ∷ 0 ∷ []) $ join ! $ nothing ! $ join ! $ frame ! $ done !
+  goes_answer : ent 𝓤 (sem 𝓛 ((G.the_row).own_val h (gate_val h ∷ []))) ((Answer 𝓛 at_mem run).pre to_answer)
+  goes_answer = qed 𝓛 (‵ ((G.the_row).own_val h (gate_val h ∷ [])) ∷ []) ∵ nothing ! $ move ! (1 ∷ 0 ∷ []) $ join ! $ nothing ! $ join ! $ frame ! $ done !
 
   module _ (C : Calls 𝓤 H) (Λ : Loops 𝓤 H) (fm : FmC 𝓤 H 𝓛.laws C)
       (known-after : Triple 𝓤 (C #after) (After 𝓛 at_mem run))
@@ -129,27 +129,27 @@ module _ {M : Type 1} {𝓤 : Ura M} (𝓛 : Logic 𝓤) (at_mem : Memory → SP
         spelt ! G.the_row (Is G.the_row) (shows 𝓛 G.the_row) (LL.vals G.the_type G'.the_laws) (LL.tells G.the_type G'.the_laws) full_share h vs b o $
         -- [the gate's cell; what it owns; the open borrow; obs; auth; room for _3; …; room for _2; …; _1; …; room for _0; …]
         assigns ! (of_opd ! (load ! (from ! (hop ! (look ! 9 refl) (stop !))) (look_raw ! 0 refl))) (from ! (stop !))
-        (init ! 7 refl (gate-typed 𝓛 h (gateVal h) (gate-is h))) $
+        (init ! 7 refl (gate_typed 𝓛 h (gate_val h) (gate_is h))) $
         -- the call of `passed_gate`: some gate r with the machine value u
-        move ! (1 ∷ []) $ use1 𝓛 (raw ((After 𝓛 at_mem run).pre to-after)) goes_after $
-        calls_at ! fm (After 𝓛 at_mem run) known-after to-after (and_then ! (load ! (from ! (stop !)) (look ! 7 refl)) (no_more !)) (λ u.
+        move ! (1 ∷ []) $ use1 𝓛 (raw ((After 𝓛 at_mem run).pre to_after)) goes_after $
+        calls_at ! fm (After 𝓛 at_mem run) known-after to_after (and_then ! (load ! (from ! (stop !)) (look ! 7 refl)) (no_more !)) (λ u.
         use1 𝓛 (later (some (λ (r : Gate). (‵ ftrue ⊛ ‵ ((G.the_row).own_val r (u ∷ []))) ⊛ raw
         (ensured 𝓛 after.ended (after.clauses 𝓛 at_mem run) tt (h, tt) tt r)))) (id⊢ 𝓤 _) $ await ! tt $ pick ! (λ r.
-        split ! $ move ! (1 ∷ []) $ use1 𝓛 (raw (fact 𝓤 (r ≡ passedGate h))) (after-said 𝓛 at_mem run h r) $
-        heard ! (r ≡ passedGate h) (λ e. split ! $ drop ! $
+        split ! $ move ! (1 ∷ []) $ use1 𝓛 (raw (fact 𝓤 (r ≡ passed_gate h))) (after_said 𝓛 at_mem run h r) $
+        heard ! (r ≡ passed_gate h) (λ e. split ! $ drop ! $
         peeks ! G.the_row (Is G.the_row) (shows 𝓛 G.the_row) r (u ∷ []) (λ is.
         -- [what r owns; the gate's cell; the open borrow; obs; auth; room for _3; …; _2; …; _1; …; room for _0; …]
-        land ! (from ! (stop !)) (init ! 5 refl (gate-typed 𝓛 r u is)) $
+        land ! (from ! (stop !)) (init ! 5 refl (gate_typed 𝓛 r u is)) $
         assigns ! (of_opd ! (load ! (from ! (stop !)) (look ! 5 refl))) (from ! (hop ! (look ! 9 refl) (stop !)))
-        (store_raw ! 1 refl (gate-typed 𝓛 r u is)) $
+        (store_raw ! 1 refl (gate_typed 𝓛 r u is)) $
         move ! (1 ∷ 0 ∷ []) $ closes ! tt G.the_row r (u ∷ []) b o $
         -- [obs; the borrow; the token; _3; …; _2; …; _1; …; room for _0; …]; the call of `opens`
-        owned ! G.the_row (Is G.the_row) (gate-makes 𝓛) h (gateVal h ∷ []) (gate-is h) $
-        use1 𝓛 (raw ((Answer 𝓛 at_mem run).pre to-answer)) goes-answer $
-        calls_at ! fm (Answer 𝓛 at_mem run) known-answer to-answer (and_then ! (load ! (from ! (stop !)) (look ! 6 refl)) (no_more !)) (λ v.
+        owned ! G.the_row (Is G.the_row) (gate_makes 𝓛) h (gate_val h ∷ []) (gate_is h) $
+        use1 𝓛 (raw ((Answer 𝓛 at_mem run).pre to_answer)) goes_answer $
+        calls_at ! fm (Answer 𝓛 at_mem run) known-answer to_answer (and_then ! (load ! (from ! (stop !)) (look ! 6 refl)) (no_more !)) (λ v.
         use1 𝓛 (later (some (λ (t : Bool). (‵ ftrue ⊛ ‵ (bool.own_val t (v ∷ []))) ⊛ raw
         (ensured 𝓛 answer.ended (answer.clauses 𝓛 at_mem run) tt (h, tt) tt t)))) (id⊢ 𝓤 _) $ await ! tt $ pick ! (λ t.
-        split ! $ move ! (1 ∷ []) $ use1 𝓛 (raw (fact 𝓤 (t ≡ opens h))) (answer-said 𝓛 at_mem run h t) $ heard ! (t ≡ opens h) (λ e'. split ! $ drop ! $
+        split ! $ move ! (1 ∷ []) $ use1 𝓛 (raw (fact 𝓤 (t ≡ opens h))) (answer_said 𝓛 at_mem run h t) $ heard ! (t ≡ opens h) (λ e'. split ! $ drop ! $
         peeks ! bool (Is bool) (shows 𝓛 bool) t (v ∷ []) (λ is'.
         -- [the answer; obs; the borrow; the token; _3; …; _2; …; _1; …; room for _0; …]
         land ! (from ! (stop !)) (init ! 10 refl ((bool_Lawful 𝓛).typed t _ is').0) $

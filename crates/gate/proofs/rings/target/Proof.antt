@@ -1,12 +1,12 @@
 -- `gate::rings::target` meets its contract: the code's tests are the definition's, one by one.
 use borrow.Author.Rules.{rules}
 use borrow.Author.Tests.{le-ltb, ne_eqb}
-use Rattle.gate.proofs.RingLaws.{nobody, live, usable-fits}
+use Rattle.gate.proofs.RingLaws.{nobody, live, usable_fits}
 use Rattle.gate.proofs.rings.target.Statement.{statement}
 use Rattle.gate.proofs.rings.target.Tie as tie
 
 settings-requires : tie.Need-settings-requires
-settings-requires c κs = usable-fits _ c.before.requires
+settings-requires c κs = usable_fits _ c.before.requires
 
 cast-if1 : tie.Need-overflow-cast-if1
 cast-if1 c = search rules

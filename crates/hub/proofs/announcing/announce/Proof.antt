@@ -2,7 +2,7 @@
 use mathlib.Core.Path.{refl}
 use borrow.Author.Rules.{rules}
 use borrow.Author.Tests.{not-true, not-false}
-use Rattle.hub.proofs.RunLaws.{runs-nothing, runs-others, runs-write-then}
+use Rattle.hub.proofs.RunLaws.{runs_nothing, runs_others, runs_write_then}
 use Rattle.hub.proofs.announcing.announce.Statement.{statement}
 use Rattle.hub.proofs.announcing.announce.Tie as tie
 
@@ -18,8 +18,8 @@ same_length c = search rules
 returns : tie.Need-returns
 returns c =
     let a = c.before.before.before.before.before.before.before.before.args in
-    runs-write-then a.hub.now _ a.region.now _ a.id _ _ _ _ c.before.before.before.before.put-state.ensures
-    (rw (not-true a.changed c.before.if1.true) (runs-nothing a.hub.now _ _ a.id _ refl c.none.ensures))
+    runs_write_then a.hub.now _ a.region.now _ a.id _ _ _ _ c.before.before.before.before.put-state.ensures
+    (rw (not-true a.changed c.before.if1.true) (runs_nothing a.hub.now _ _ a.id _ refl c.none.ensures))
 
 ring-others-requires : tie.Need-ring-others-requires
 ring-others-requires c κs = search rules
@@ -36,9 +36,9 @@ returns-2 c =
     let c7 = c4.before.before.before in
     let c11 = c7.before.before.before.before in
     let a = c11.args in
-    runs-write-then a.hub.now _ a.region.now _ a.id _ _ _ _ c7.put-state.ensures
+    runs_write_then a.hub.now _ a.region.now _ a.id _ _ _ _ c7.put-state.ensures
     (rw (not-false a.changed c4.if1.false)
-    (runs-others a.hub.now _ _ a.id _ c.before.before.ring-others.ensures.0
+    (runs_others a.hub.now _ _ a.id _ c.before.before.ring-others.ensures.0
     c.before.before.ring-others.ensures.1))
 
 pub announce-spec : {M : Type 1} → statement M

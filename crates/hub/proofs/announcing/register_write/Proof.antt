@@ -4,9 +4,9 @@ use native.Mathlib.Omega.{arith}
 use borrow.Author.Rules.{rules}
 use borrow.Author.Tests.{eqb-true, not-true, not-false}
 use Rattle.device.specs.Effect.{effect}
-use Rattle.words.specs.Layout.{hubOf}
-use Rattle.hub.proofs.RefusalLaws.{register-write-refusal}
-use Rattle.hub.proofs.RunLaws.{ready, runs-nothing, serves-refused, serves-accepted}
+use Rattle.words.specs.Layout.{hub_of}
+use Rattle.hub.proofs.RefusalLaws.{register_write_refusal}
+use Rattle.hub.proofs.RunLaws.{ready, runs_nothing, serves_refused, serves_accepted}
 use Rattle.hub.proofs.announcing.register_write.Statement.{statement}
 use Rattle.hub.proofs.announcing.register_write.Tie as tie
 
@@ -26,8 +26,8 @@ returns : tie.Need-returns
 returns c =
     let a = c.before.before.before.before.before.before.before.args in
     let n = rw c.before.before.before.before.both-lent.ensures at c.before.before.space-refusal.ensures.0 in
-    serves-refused a.hub.now a.region.now _ c.before.before.space-refusal.result _
-    (register-write-refusal (hubOf a.hub.now) a.region.now a.id a.records a.offset a.width a.value ∙ sym n)
+    serves_refused a.hub.now a.region.now _ c.before.before.space-refusal.result _
+    (register_write_refusal (hub_of a.hub.now) a.region.now a.id a.records a.offset a.width a.value ∙ sym n)
     c.before.if1.true c.silent.ensures.0 c.silent.ensures.1
 
 peer-requires : tie.Need-peer-requires
@@ -55,10 +55,10 @@ returns-2 c =
     let n = rw c8.both-lent.ensures at c6.space-refusal.ensures.0 in
     let off = rw (c.before.before.memory-on.ensures, c.before.before.before.peer.ensures)
     at (not-true c.before.before.memory-on.result c.before.if2.true) in
-    serves-accepted a.hub.now _ a.region.now _ _ _
-    (register-write-refusal (hubOf a.hub.now) a.region.now a.id a.records a.offset a.width a.value ∙ sym n ∙ c5.if1.false)
+    serves_accepted a.hub.now _ a.region.now _ _ _
+    (register_write_refusal (hub_of a.hub.now) a.region.now a.id a.records a.offset a.width a.value ∙ sym n ∙ c5.if1.false)
     refl c.silent2.ensures.0
-    (rw off (runs-nothing a.hub.now _ a.region.now a.id _ refl c.silent2.ensures.1))
+    (rw off (runs_nothing a.hub.now _ a.region.now a.id _ refl c.silent2.ensures.1))
 
 store-register-requires : tie.Need-store-register-requires
 store-register-requires c κs =
@@ -92,8 +92,8 @@ returns-3 c =
     let a = c18.args in
     let n = rw c15.both-lent.ensures at c13.space-refusal.ensures.0 in
     let on = rw (c9.memory-on.ensures, c10.peer.ensures) at (not-false c9.memory-on.result c8.if2.false) in
-    serves-accepted a.hub.now _ a.region.now _ _ _
-    (register-write-refusal (hubOf a.hub.now) a.region.now a.id a.records a.offset a.width a.value ∙ sym n ∙ c12.if1.false)
+    serves_accepted a.hub.now _ a.region.now _ _ _
+    (register_write_refusal (hub_of a.hub.now) a.region.now a.id a.records a.offset a.width a.value ∙ sym n ∙ c12.if1.false)
     refl c.served.ensures.0 (rw (on, c.served.ensures.1) c5.store-register.ensures)
 
 pub register-write-spec : {M : Type 1} → statement M

@@ -2,10 +2,10 @@
 use mathlib.Core.Path.{refl, sym, ◌∙◌}
 use borrow.Author.Rules.{rules}
 use Rattle.device.specs.Effect.{effect}
-use Rattle.device.specs.Step.{run, runAll}
-use Rattle.words.specs.Layout.{hubOf}
-use Rattle.hub.proofs.RefusalLaws.{connect-refusal, joining-slot}
-use Rattle.hub.proofs.ReplyLaws.{changes-refused, changes-accepted}
+use Rattle.device.specs.Step.{run, run_all}
+use Rattle.words.specs.Layout.{hub_of}
+use Rattle.hub.proofs.RefusalLaws.{connect_refusal, joining_slot}
+use Rattle.hub.proofs.ReplyLaws.{changes_refused, changes_accepted}
 use Rattle.hub.proofs.joining.connect.Statement.{statement}
 use Rattle.hub.proofs.joining.connect.Tie as tie
 
@@ -21,8 +21,8 @@ same_length c = search rules
 returns : tie.Need-returns
 returns c =
     let a = c.before.before.before.before.before.args in
-    changes-refused a.hub.now _ c.before.before.joining-refusal.result _
-    (λ region. connect-refusal (hubOf a.hub.now) region a.id ∙ sym c.before.before.joining-refusal.ensures.0)
+    changes_refused a.hub.now _ c.before.before.joining-refusal.result _
+    (λ region. connect_refusal (hub_of a.hub.now) region a.id ∙ sym c.before.before.joining-refusal.ensures.0)
     c.before.if1.true c.answered.ensures
 
 reset-requires : tie.Need-reset-requires
@@ -40,7 +40,7 @@ same-length-2 : tie.Need-same-length-2
 same-length-2 c = search rules
 
 returns-2 : tie.Need-returns-2
-unfolding effect runAll run
+unfolding effect run_all run
 returns-2 c =
     let c4 = c.before.before.before.before in
     let c6 = c4.before.before in
@@ -48,10 +48,10 @@ returns-2 c =
     let c10 = c7.before.before.before in
     let a = c10.args in
     let z = sym c7.joining-refusal.ensures.0 ∙ c6.if1.false in
-    changes-accepted a.hub.now _ _ _ _
-    (λ region. connect-refusal (hubOf a.hub.now) region a.id) z
+    changes_accepted a.hub.now _ _ _ _
+    (λ region. connect_refusal (hub_of a.hub.now) region a.id) z
     c.answered2.ensures (λ region. refl)
-    (λ region. rw (c4.reset.ensures, joining-slot a.hub.now a.id z) at c.before.before.before.put-peer.ensures)
+    (λ region. rw (c4.reset.ensures, joining_slot a.hub.now a.id z) at c.before.before.before.put-peer.ensures)
 
 pub connect-spec : {M : Type 1} → statement M
 connect-spec =

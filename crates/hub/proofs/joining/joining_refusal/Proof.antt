@@ -5,9 +5,9 @@ use borrow.Author.Rules.{rules}
 use borrow.Author.Tests.{not-true, not-false, le-leb, lt-leb, eq-eqb, ne_eqb}
 use Rattle.common.specs.Tests.{first}
 use Rattle.device.specs.Sound.{sound}
-use Rattle.soundness.proofs.WholeLaws.{sound-room}
-use Rattle.words.specs.Layout.{hubOf}
-use Rattle.hub.proofs.RefusalLaws.{joining-facts}
+use Rattle.soundness.proofs.WholeLaws.{sound_room}
+use Rattle.words.specs.Layout.{hub_of}
+use Rattle.hub.proofs.RefusalLaws.{joining_facts}
 use Rattle.hub.proofs.joining.joining_refusal.Statement.{statement}
 use Rattle.hub.proofs.joining.joining_refusal.Tie as tie
 
@@ -18,19 +18,19 @@ returns : tie.Need-returns
 unfolding first
 returns c =
     let a = c.before.before.before.args in
-    let s : sound (hubOf a.hub.now) ≡ false = sym c.before.sound.ensures ∙ not-true _ c.if1.true in
-    joining-facts a.hub.now a.id _ (rw s)
+    let s : sound (hub_of a.hub.now) ≡ false = sym c.before.sound.ensures ∙ not-true _ c.if1.true in
+    joining_facts a.hub.now a.id _ (rw s)
 
 settings-requires : tie.Need-settings-requires
-settings-requires c κs = sound-room _ (sym c.before.sound.ensures ∙ not-false _ c.if1.false)
+settings-requires c κs = sound_room _ (sym c.before.sound.ensures ∙ not-false _ c.if1.false)
 
 returns-2 : tie.Need-returns-2
 unfolding first
 returns-2 c =
     let a = c.before.before.before.before.before.before.args in
-    let s : sound (hubOf a.hub.now) ≡ true = sym c.before.before.before.before.sound.ensures ∙ not-false _ c.before.before.before.if1.false in
+    let s : sound (hub_of a.hub.now) ≡ true = sym c.before.before.before.before.sound.ensures ∙ not-false _ c.before.before.before.if1.false in
     let three = rw c.before.before.settings.ensures at c.if2.true in
-    joining-facts a.hub.now a.id _ (rw (s, le-leb _ _ three))
+    joining_facts a.hub.now a.id _ (rw (s, le-leb _ _ three))
 
 peer-requires : tie.Need-peer-requires
 peer-requires c κs = rw c.before.before.settings.ensures at c.if2.false
@@ -43,10 +43,10 @@ returns-3 c =
     let c7 = c6.before in
     let c9 = c7.before.before in
     let a = c9.args in
-    let s : sound (hubOf a.hub.now) ≡ true = sym c7.sound.ensures ∙ not-false _ c6.if1.false in
+    let s : sound (hub_of a.hub.now) ≡ true = sym c7.sound.ensures ∙ not-false _ c6.if1.false in
     let three = rw c5.settings.ensures at c.before.before.before.if2.false in
     let five = rw c.before.before.peer.ensures at c.if3.true in
-    joining-facts a.hub.now a.id _ (rw (s, lt-leb _ _ three, eq-eqb _ _ five))
+    joining_facts a.hub.now a.id _ (rw (s, lt-leb _ _ three, eq-eqb _ _ five))
 
 returns-4 : tie.Need-returns-4
 unfolding first
@@ -56,10 +56,10 @@ returns-4 c =
     let c7 = c6.before in
     let c9 = c7.before.before in
     let a = c9.args in
-    let s : sound (hubOf a.hub.now) ≡ true = sym c7.sound.ensures ∙ not-false _ c6.if1.false in
+    let s : sound (hub_of a.hub.now) ≡ true = sym c7.sound.ensures ∙ not-false _ c6.if1.false in
     let three = rw c5.settings.ensures at c.before.before.before.if2.false in
     let five = rw c.before.before.peer.ensures at c.if3.false in
-    joining-facts a.hub.now a.id _ (rw (s, lt-leb _ _ three, ne_eqb _ _ five))
+    joining_facts a.hub.now a.id _ (rw (s, lt-leb _ _ three, ne_eqb _ _ five))
 
 pub joining-refusal-spec : {M : Type 1} → statement M
 joining-refusal-spec =

@@ -4,12 +4,12 @@ use mathlib.Core.List.{List}
 use mathlib.Core.Path.{◌≡◌, sym, ap, ◌∙◌}
 use lib.ListN.{length}
 use borrow.Author.Rules.{rules}
-use Rattle.device.specs.SetUp.{hubAfterSetUp, regionAfterSetUp}
+use Rattle.device.specs.SetUp.{hub_after_set_up, region_after_set_up}
 use Rattle.device.specs.declared.Reply.{Reply}
-use Rattle.words.proofs.LayoutLaws.{zero-words}
-use Rattle.words.specs.Layout.{hubOf}
-use Rattle.hub.proofs.ReplyLaws.{refusedBy}
-use Rattle.hub.proofs.SetUpLaws.{storable, hub-refused, region-refused}
+use Rattle.words.proofs.LayoutLaws.{zero_words}
+use Rattle.words.specs.Layout.{hub_of}
+use Rattle.hub.proofs.ReplyLaws.{refused_by}
+use Rattle.hub.proofs.SetUpLaws.{storable, hub_refused, region_refused}
 use Rattle.hub.proofs.joining.set_up_with.Statement.{statement}
 use Rattle.hub.proofs.joining.set_up_with.Tie as tie
 
@@ -37,9 +37,9 @@ returns c =
     let n : c.answered.result.number ≡ c6.set-up-refusal.result = ap (λ (r : Reply). r.number) c.answered.ensures in
     let some : c.answered.result.number ≡ 0 → ⊥ = λ z. c5.if1.true (sym n ∙ z) in
     record {
-      reply = c.answered.ensures ∙ ap (λ (x : ℕ). refusedBy x) c6.set-up-refusal.ensures.0;
-      hub = ap (λ (ws : List ℕ). hubOf ws) c.before.before.before.put-zero.ensures ∙ zero-words (length a.hub.now) ∙ sym (hub-refused _ a.s some);
-      region = sym (region-refused _ a.region.now some);
+      reply = c.answered.ensures ∙ ap (λ (x : ℕ). refused_by x) c6.set-up-refusal.ensures.0;
+      hub = ap (λ (ws : List ℕ). hub_of ws) c.before.before.before.put-zero.ensures ∙ zero_words (length a.hub.now) ∙ sym (hub_refused _ a.s some);
+      region = sym (region_refused _ a.region.now some);
       zero = λ p. c.before.before.before.put-zero.ensures;
     }
 
@@ -67,9 +67,9 @@ returns-2 c =
     let a = c14.args in
     let n : c.answered2.result.number ≡ 0 = ap (λ (r : Reply). r.number) c.answered2.ensures in
     record {
-      reply = c.answered2.ensures ∙ ap (λ (x : ℕ). refusedBy x) (sym c9.if1.false ∙ c10.set-up-refusal.ensures.0);
-      hub = c7.put-fresh.ensures ∙ sym (ap (λ (x : ℕ). hubAfterSetUp x a.s) n);
-      region = c.before.before.before.clear.ensures ∙ sym (ap (λ (x : ℕ). regionAfterSetUp x a.region.now) n);
+      reply = c.answered2.ensures ∙ ap (λ (x : ℕ). refused_by x) (sym c9.if1.false ∙ c10.set-up-refusal.ensures.0);
+      hub = c7.put-fresh.ensures ∙ sym (ap (λ (x : ℕ). hub_after_set_up x a.s) n);
+      region = c.before.before.before.clear.ensures ∙ sym (ap (λ (x : ℕ). region_after_set_up x a.region.now) n);
       zero = λ p. absurd (p n);
     }
 

@@ -2,9 +2,9 @@
 use mathlib.Core.Path.{sym, ◌∙◌}
 use borrow.Author.Rules.{rules}
 use Rattle.device.specs.Effect.{effect}
-use Rattle.words.specs.Layout.{hubOf}
-use Rattle.hub.proofs.RefusalLaws.{question-refusal}
-use Rattle.hub.proofs.ReplyLaws.{question-refused, question-accepted}
+use Rattle.words.specs.Layout.{hub_of}
+use Rattle.hub.proofs.RefusalLaws.{question_refusal}
+use Rattle.hub.proofs.ReplyLaws.{question_refused, question_accepted}
 use Rattle.hub.proofs.reads.section_question.Statement.{statement}
 use Rattle.hub.proofs.reads.section_question.Tie as tie
 
@@ -23,8 +23,8 @@ returns c =
     let n = rw c.before.before.before.nothing_Lent.ensures at c.before.before.range-refusal.ensures.0 in
     λ region.
     c.unanswered.ensures
-    ∙ question-refused _ _ c.before.before.range-refusal.result
-    (question-refusal (hubOf a.hub.now) region a.id a.offset a.length ∙ sym n) c.before.if1.true
+    ∙ question_refused _ _ c.before.before.range-refusal.result
+    (question_refusal (hub_of a.hub.now) region a.id a.offset a.length ∙ sym n) c.before.if1.true
 
 settings-requires : tie.Need-settings-requires
 settings-requires c κs = (c.before.range-refusal.ensures.1.0 c.if1.false).room
@@ -52,8 +52,8 @@ returns-2 c =
     let n = rw c6.nothing_Lent.ensures at c5.range-refusal.ensures.0 in
     λ region.
     rw (c.answered.ensures, c.before.answer.ensures, c.before.before.section-of.ensures, c.before.before.before.settings.ensures)
-    (question-accepted _ _
-    (question-refusal (hubOf a.hub.now) region a.id a.offset a.length ∙ sym n ∙ c4.if1.false))
+    (question_accepted _ _
+    (question_refusal (hub_of a.hub.now) region a.id a.offset a.length ∙ sym n ∙ c4.if1.false))
 
 pub section-question-spec : {M : Type 1} → statement M
 section-question-spec =

@@ -5,9 +5,9 @@ use borrow.Author.Rules.{rules}
 use borrow.Author.Tests.{not-true, not-false, le-leb, lt-leb, eq-eqb, ne_eqb}
 use Rattle.common.specs.Tests.{first}
 use Rattle.device.specs.Sound.{sound}
-use Rattle.soundness.proofs.WholeLaws.{sound-numbers, sound-room}
-use Rattle.words.specs.Layout.{hubOf}
-use Rattle.hub.proofs.RefusalLaws.{with-facts}
+use Rattle.soundness.proofs.WholeLaws.{sound_numbers, sound_room}
+use Rattle.words.specs.Layout.{hub_of}
+use Rattle.hub.proofs.RefusalLaws.{with_facts}
 use Rattle.hub.proofs.refusals.admitted.Statement.{statement}
 use Rattle.hub.proofs.refusals.admitted.Tie as tie
 
@@ -18,19 +18,19 @@ returns : tie.Need-returns
 unfolding first
 returns c =
     let a = c.before.before.before.args in
-    let s : sound (hubOf c.before.before.before.args.hub.now) ≡ false = sym c.before.sound.ensures ∙ not-true _ c.if1.true in
-    with-facts a.hub.now a.lent a.id _ (rw s)
+    let s : sound (hub_of c.before.before.before.args.hub.now) ≡ false = sym c.before.sound.ensures ∙ not-true _ c.if1.true in
+    with_facts a.hub.now a.lent a.id _ (rw s)
 
 settings-requires : tie.Need-settings-requires
 settings-requires c κs =
-    let s : sound (hubOf c.before.before.before.args.hub.now) ≡ true = sym c.before.sound.ensures ∙ not-false _ c.if1.false in
-    sound-room _ s
+    let s : sound (hub_of c.before.before.before.args.hub.now) ≡ true = sym c.before.sound.ensures ∙ not-false _ c.if1.false in
+    sound_room _ s
 
 total-requires : tie.Need-total-requires
 total-requires c κs =
     let c4 = c.before.before.before.before in
-    let s : sound (hubOf c4.args.hub.now) ≡ true = sym c.before.before.sound.ensures ∙ not-false _ c.before.if1.false in
-    rw c.settings.ensures (sound-numbers _ s)
+    let s : sound (hub_of c4.args.hub.now) ≡ true = sym c.before.before.sound.ensures ∙ not-false _ c.before.if1.false in
+    rw c.settings.ensures (sound_numbers _ s)
 
 returns-2 : tie.Need-returns-2
 unfolding first
@@ -40,9 +40,9 @@ returns-2 c =
     let c6 = c5.before in
     let c8 = c6.before.before in
     let a = c8.args in
-    let s : sound (hubOf c8.args.hub.now) ≡ true = sym c6.sound.ensures ∙ not-false _ c5.if1.false in
+    let s : sound (hub_of c8.args.hub.now) ≡ true = sym c6.sound.ensures ∙ not-false _ c5.if1.false in
     let two = rw (c.before.before.before.total.ensures, c4.settings.ensures) at c.if2.true in
-    with-facts a.hub.now a.lent a.id _ (rw (s, two))
+    with_facts a.hub.now a.lent a.id _ (rw (s, two))
 
 returns-3 : tie.Need-returns-3
 unfolding first
@@ -54,10 +54,10 @@ returns-3 c =
     let c10 = c9.before in
     let c12 = c10.before.before in
     let a = c12.args in
-    let s : sound (hubOf c12.args.hub.now) ≡ true = sym c10.sound.ensures ∙ not-false _ c9.if1.false in
+    let s : sound (hub_of c12.args.hub.now) ≡ true = sym c10.sound.ensures ∙ not-false _ c9.if1.false in
     let two = rw (c7.total.ensures, c8.settings.ensures) at c4.if2.false in
     let eleven = rw c8.settings.ensures at c.if3.true in
-    with-facts a.hub.now a.lent a.id _ (rw (s, two, eleven))
+    with_facts a.hub.now a.lent a.id _ (rw (s, two, eleven))
 
 returns-4 : tie.Need-returns-4
 unfolding first
@@ -69,11 +69,11 @@ returns-4 c =
     let c12 = c11.before in
     let c14 = c12.before.before in
     let a = c14.args in
-    let s : sound (hubOf c14.args.hub.now) ≡ true = sym c12.sound.ensures ∙ not-false _ c11.if1.false in
+    let s : sound (hub_of c14.args.hub.now) ≡ true = sym c12.sound.ensures ∙ not-false _ c11.if1.false in
     let two = rw (c9.total.ensures, c10.settings.ensures) at c6.if2.false in
     let eleven = rw c10.settings.ensures at c.before.before.if3.false in
     let three = rw c10.settings.ensures at c.if4.true in
-    with-facts a.hub.now a.lent a.id _ (rw (s, two, eleven, le-leb _ _ three))
+    with_facts a.hub.now a.lent a.id _ (rw (s, two, eleven, le-leb _ _ three))
 
 peer-requires : tie.Need-peer-requires
 peer-requires c κs = rw c.before.before.before.before.before.before.before.before.before.before.settings.ensures at c.if4.false
@@ -89,12 +89,12 @@ returns-5 c =
     let c15 = c14.before in
     let c17 = c15.before.before in
     let a = c17.args in
-    let s : sound (hubOf c17.args.hub.now) ≡ true = sym c15.sound.ensures ∙ not-false _ c14.if1.false in
+    let s : sound (hub_of c17.args.hub.now) ≡ true = sym c15.sound.ensures ∙ not-false _ c14.if1.false in
     let two = rw (c12.total.ensures, c13.settings.ensures) at c9.if2.false in
     let eleven = rw c13.settings.ensures at c5.if3.false in
     let three = rw c13.settings.ensures at c.before.before.before.if4.false in
     let four = rw c.before.before.peer.ensures at c.if5.true in
-    with-facts a.hub.now a.lent a.id _ (rw (s, two, eleven, lt-leb _ _ three, ne_eqb _ _ four))
+    with_facts a.hub.now a.lent a.id _ (rw (s, two, eleven, lt-leb _ _ three, ne_eqb _ _ four))
 
 returns-6 : tie.Need-returns-6
 unfolding first
@@ -107,12 +107,12 @@ returns-6 c =
     let c15 = c14.before in
     let c17 = c15.before.before in
     let a = c17.args in
-    let s : sound (hubOf c17.args.hub.now) ≡ true = sym c15.sound.ensures ∙ not-false _ c14.if1.false in
+    let s : sound (hub_of c17.args.hub.now) ≡ true = sym c15.sound.ensures ∙ not-false _ c14.if1.false in
     let two = rw (c12.total.ensures, c13.settings.ensures) at c9.if2.false in
     let eleven = rw c13.settings.ensures at c5.if3.false in
     let three = rw c13.settings.ensures at c.before.before.before.if4.false in
     let four = rw c.before.before.peer.ensures at c.if5.false in
-    with-facts a.hub.now a.lent a.id _ (rw (s, two, eleven, lt-leb _ _ three, eq-eqb _ _ four))
+    with_facts a.hub.now a.lent a.id _ (rw (s, two, eleven, lt-leb _ _ three, eq-eqb _ _ four))
 
 pub admitted-spec : {M : Type 1} → statement M
 admitted-spec =

@@ -3,13 +3,13 @@ use mathlib.Core.Path.{refl, sym, ap, ◌∙◌}
 use native.Mathlib.Omega.{arith}
 use lib.ListN.{length}
 use borrow.Author.Rules.{rules}
-use Rattle.device.proofs.StepLaws.{accepted-effect}
+use Rattle.device.proofs.StepLaws.{accepted_effect}
 use Rattle.device.specs.Effect.{effect}
 use Rattle.device.specs.Step.{Outcome}
 use Rattle.device.specs.declared.Reply.{Reply}
-use Rattle.words.specs.Layout.{hubOf}
-use Rattle.hub.proofs.RefusalLaws.{load-refusal}
-use Rattle.hub.proofs.ReplyLaws.{reply-refused, reply-accepted}
+use Rattle.words.specs.Layout.{hub_of}
+use Rattle.hub.proofs.RefusalLaws.{load_refusal}
+use Rattle.hub.proofs.ReplyLaws.{reply_refused, reply_accepted}
 use Rattle.hub.proofs.shared.load.Statement.{statement}
 use Rattle.hub.proofs.shared.load.Tie as tie
 
@@ -25,10 +25,10 @@ answered-requires c κs = search rules
 returns : tie.Need-returns
 returns c =
     let a = c.before.before.before.before.before.before.before.args in
-    let n = load-refusal (hubOf a.hub.now) a.region.now a.id a.offset (length a.buffer.now)
+    let n = load_refusal (hub_of a.hub.now) a.region.now a.id a.offset (length a.buffer.now)
     ∙ sym (rw c.before.before.before.region-lent.ensures at c.before.before.range-refusal.ensures.0) in
     record {
-      reply = c.answered.ensures ∙ reply-refused _ _ c.before.before.range-refusal.result n c.before.if1.true;
+      reply = c.answered.ensures ∙ reply_refused _ _ c.before.before.range-refusal.result n c.before.if1.true;
       filled = λ z. absurd (c.before.if1.true (sym (ap (λ (r : Reply). r.number) c.answered.ensures) ∙ z));
       kept = λ z. refl;
     }
@@ -54,11 +54,11 @@ returns-2 c =
     let c7 = c6.before in
     let c11 = c7.before.before.before.before in
     let a = c11.args in
-    let n = load-refusal (hubOf a.hub.now) a.region.now a.id a.offset (length a.buffer.now)
+    let n = load_refusal (hub_of a.hub.now) a.region.now a.id a.offset (length a.buffer.now)
     ∙ sym (rw c7.region-lent.ensures at c6.range-refusal.ensures.0) ∙ c5.if1.false in
     record {
-      reply = c.answered2.ensures ∙ reply-accepted _ _ 0 n refl;
-      filled = λ z. c.before.before.before.load.ensures ∙ sym (ap (λ (o : Outcome). o.loaded) (accepted-effect _ _ n));
+      reply = c.answered2.ensures ∙ reply_accepted _ _ 0 n refl;
+      filled = λ z. c.before.before.before.load.ensures ∙ sym (ap (λ (o : Outcome). o.loaded) (accepted_effect _ _ n));
       kept = λ z. absurd (z (ap (λ (r : Reply). r.number) c.answered2.ensures));
     }
 

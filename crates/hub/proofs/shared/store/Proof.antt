@@ -4,13 +4,13 @@ use mathlib.Core.List.{List}
 use mathlib.Core.Path.{refl, sym, ap, ◌∙◌}
 use native.Mathlib.Omega.{arith}
 use borrow.Author.Rules.{rules}
-use Rattle.device.proofs.StepLaws.{accepted-effect}
+use Rattle.device.proofs.StepLaws.{accepted_effect}
 use Rattle.device.specs.Effect.{effect}
-use Rattle.device.specs.Step.{Outcome, run, runAll}
+use Rattle.device.specs.Step.{Outcome, run, run_all}
 use Rattle.device.specs.World.{world}
-use Rattle.words.specs.Layout.{hubOf}
-use Rattle.hub.proofs.RefusalLaws.{store-refusal}
-use Rattle.hub.proofs.ReplyLaws.{step-refused, reply-refused, reply-accepted}
+use Rattle.words.specs.Layout.{hub_of}
+use Rattle.hub.proofs.RefusalLaws.{store_refusal}
+use Rattle.hub.proofs.ReplyLaws.{step_refused, reply_refused, reply_accepted}
 use Rattle.hub.proofs.shared.store.Statement.{statement}
 use Rattle.hub.proofs.shared.store.Tie as tie
 
@@ -26,11 +26,11 @@ answered-requires c κs = search rules
 returns : tie.Need-returns
 returns c =
     let a = c.before.before.before.before.before.before.before.args in
-    let n = store-refusal (hubOf a.hub.now) a.region.now a.id a.offset a.stored.now
+    let n = store_refusal (hub_of a.hub.now) a.region.now a.id a.offset a.stored.now
     ∙ sym (rw c.before.before.before.region-lent.ensures at c.before.before.store-refusal.ensures.0) in
     record {
-      reply = c.answered.ensures ∙ reply-refused _ _ c.before.before.store-refusal.result n c.before.if1.true;
-      region = sym (ap (λ (o : Outcome). o.world) (step-refused _ _ c.before.before.store-refusal.result n c.before.if1.true));
+      reply = c.answered.ensures ∙ reply_refused _ _ c.before.before.store-refusal.result n c.before.if1.true;
+      region = sym (ap (λ (o : Outcome). o.world) (step_refused _ _ c.before.before.store-refusal.result n c.before.if1.true));
     }
 
 store-requires : tie.Need-store-requires
@@ -47,20 +47,20 @@ same_length : tie.Need-same-length
 same_length c = search rules
 
 returns-2 : tie.Need-returns-2
-unfolding effect runAll run
+unfolding effect run_all run
 returns-2 c =
     let c5 = c.before.before.before.before.before in
     let c6 = c5.before in
     let c7 = c6.before in
     let c11 = c7.before.before.before.before in
     let a = c11.args in
-    let n = store-refusal (hubOf a.hub.now) a.region.now a.id a.offset a.stored.now
+    let n = store_refusal (hub_of a.hub.now) a.region.now a.id a.offset a.stored.now
     ∙ sym (rw c7.region-lent.ensures at c6.store-refusal.ensures.0) ∙ c5.if1.false in
     record {
-      reply = c.answered2.ensures ∙ reply-accepted _ _ 0 n refl;
+      reply = c.answered2.ensures ∙ reply_accepted _ _ 0 n refl;
       region =
-          ap (λ (l : List ℕ). world (hubOf a.hub.now) l) c.before.before.before.store.ensures
-          ∙ sym (ap (λ (o : Outcome). o.world) (accepted-effect _ _ n));
+          ap (λ (l : List ℕ). world (hub_of a.hub.now) l) c.before.before.before.store.ensures
+          ∙ sym (ap (λ (o : Outcome). o.world) (accepted_effect _ _ n));
     }
 
 pub store_spec : {M : Type 1} → statement M

@@ -4,12 +4,12 @@ use native.Mathlib.Omega.{arith}
 use borrow.Author.Rules.{rules}
 use Rattle.device.specs.Call.{Act}
 use Rattle.device.specs.Effect.{effect}
-use Rattle.device.specs.Refusal.{lentTo, accessOf}
-use Rattle.device.specs.Step.{run, runAll}
-use Rattle.device.proofs.ConfigurationLaws.{in-one-word}
-use Rattle.words.specs.Layout.{hubOf}
-use Rattle.hub.proofs.RefusalLaws.{configuration-checked, any-width}
-use Rattle.hub.proofs.ReplyLaws.{changes-refused, changes-accepted}
+use Rattle.device.specs.Refusal.{lent_to, access_of}
+use Rattle.device.specs.Step.{run, run_all}
+use Rattle.device.proofs.ConfigurationLaws.{in_one_word}
+use Rattle.words.specs.Layout.{hub_of}
+use Rattle.hub.proofs.RefusalLaws.{configuration_checked, any_width_lem}
+use Rattle.hub.proofs.ReplyLaws.{changes_refused, changes_accepted}
 use Rattle.hub.proofs.writes.configuration_write.Statement.{statement}
 use Rattle.hub.proofs.writes.configuration_write.Tie as tie
 
@@ -17,7 +17,7 @@ nothing-lent-requires : tie.Need-nothing-lent-requires
 nothing-lent-requires c κs = search rules
 
 space-refusal-requires : tie.Need-space-refusal-requires
-space-refusal-requires c κs = (omega arith, any-width c.before.before.before.args.width)
+space-refusal-requires c κs = (omega arith, any_width_lem c.before.before.before.args.width)
 
 answered-requires : tie.Need-answered-requires
 answered-requires c κs = search rules
@@ -26,11 +26,11 @@ same_length : tie.Need-same-length
 same_length c = search rules
 
 returns : tie.Need-returns
-unfolding lentTo accessOf
+unfolding lent_to access_of
 returns c =
     let a = c.before.before.before.before.before.before.args in
-    changes-refused a.hub.now _ _ _
-    (configuration-checked a.hub.now a.id (Act.configurationWrite a.offset a.width a.value) a.offset a.width _ _ refl refl
+    changes_refused a.hub.now _ _ _
+    (configuration_checked a.hub.now a.id (Act.configuration_write a.offset a.width a.value) a.offset a.width _ _ refl refl
     c.before.before.before.before.nothing_Lent.ensures c.before.before.space-refusal.ensures.0)
     c.before.if1.true c.answered.ensures
 
@@ -45,7 +45,7 @@ peer-requires c κs =
 write-requires : tie.Need-write-requires
 write-requires c κs =
     let f = c.before.before.before.before.before.before.space-refusal.ensures.1.1 c.before.before.before.before.before.if1.false in
-    in-one-word _ _ f.width f.aligned
+    in_one_word _ _ f.width f.aligned
 
 put-peer-requires : tie.Need-put-peer-requires
 put-peer-requires c κs =
@@ -61,7 +61,7 @@ same-length-2 : tie.Need-same-length-2
 same-length-2 c = search rules
 
 returns-2 : tie.Need-returns-2
-unfolding lentTo accessOf effect runAll run
+unfolding lent_to access_of effect run_all run
 returns-2 c =
     let c4 = c.before.before.before.before in
     let c6 = c4.before.before in
@@ -71,8 +71,8 @@ returns-2 c =
     let c13 = c11.before.before in
     let c15 = c13.before.before in
     let a = c15.args in
-    changes-accepted a.hub.now _ _ _ _
-    (configuration-checked a.hub.now a.id (Act.configurationWrite a.offset a.width a.value) a.offset a.width _ _ refl refl
+    changes_accepted a.hub.now _ _ _ _
+    (configuration_checked a.hub.now a.id (Act.configuration_write a.offset a.width a.value) a.offset a.width _ _ refl refl
     c13.nothing_Lent.ensures c11.space-refusal.ensures.0)
     c10.if1.false c.answered2.ensures (λ region. refl)
     (λ region. rw (c.before.before.before.put-peer.ensures, c4.write.ensures, c8.settings.ensures, c6.peer.ensures))

@@ -6,13 +6,13 @@ use borrow.Author.Rules.{rules}
 use borrow.Author.Tests.{eqb-true, not-true, not-false, ltb-true}
 use Rattle.device.specs.Call.{Act}
 use Rattle.device.specs.Effect.{effect}
-use Rattle.device.specs.Msix.{msixWritten, in_table}
-use Rattle.device.specs.Refusal.{lentTo, accessOf}
-use Rattle.device.specs.Step.{run, runAll}
+use Rattle.device.specs.Msix.{msix_written, in_table}
+use Rattle.device.specs.Refusal.{lent_to, access_of}
+use Rattle.device.specs.Step.{run, run_all}
 use Rattle.words.proofs.SlotLaws.{slot_kept}
-use Rattle.words.specs.Layout.{hubOf}
-use Rattle.hub.proofs.RefusalLaws.{region-checked}
-use Rattle.hub.proofs.ReplyLaws.{changes-refused, changes-accepted}
+use Rattle.words.specs.Layout.{hub_of}
+use Rattle.hub.proofs.RefusalLaws.{region_checked}
+use Rattle.hub.proofs.ReplyLaws.{changes_refused, changes_accepted}
 use Rattle.hub.proofs.writes.msix_write.Statement.{statement}
 use Rattle.hub.proofs.writes.msix_write.Tie as tie
 
@@ -29,11 +29,11 @@ same_length : tie.Need-same-length
 same_length c = search rules
 
 returns : tie.Need-returns
-unfolding lentTo accessOf
+unfolding lent_to access_of
 returns c =
     let a = c.before.before.before.before.before.before.args in
-    changes-refused a.hub.now _ _ _
-    (region-checked a.hub.now a.id (Act.msixWrite a.offset a.width a.value) a.offset a.width _ _ refl refl
+    changes_refused a.hub.now _ _ _
+    (region_checked a.hub.now a.id (Act.msix_write a.offset a.width a.value) a.offset a.width _ _ refl refl
     c.before.before.before.before.nothing_Lent.ensures c.before.before.space-refusal.ensures.0)
     c.before.if1.true c.answered.ensures
 
@@ -52,7 +52,7 @@ same-length-2 : tie.Need-same-length-2
 same-length-2 c = search rules
 
 returns-2 : tie.Need-returns-2
-unfolding lentTo accessOf effect runAll run
+unfolding lent_to access_of effect run_all run
 returns-2 c =
     let c5 = c.before.before.before.before.before in
     let c6 = c5.before in
@@ -61,8 +61,8 @@ returns-2 c =
     let a = c10.args in
     let off = rw (c.before.before.memory-on.ensures, c.before.before.before.peer.ensures)
     at (not-true c.before.before.memory-on.result c.before.if2.true) in
-    changes-accepted a.hub.now _ _ _ _
-    (region-checked a.hub.now a.id (Act.msixWrite a.offset a.width a.value) a.offset a.width _ _ refl refl
+    changes_accepted a.hub.now _ _ _ _
+    (region_checked a.hub.now a.id (Act.msix_write a.offset a.width a.value) a.offset a.width _ _ refl refl
     c8.nothing_Lent.ensures c6.space-refusal.ensures.0)
     c5.if1.false c.answered2.ensures (λ region. refl)
     (λ region. rw off)
@@ -83,7 +83,7 @@ same-length-3 : tie.Need-same-length-3
 same-length-3 c = search rules
 
 returns-3 : tie.Need-returns-3
-unfolding lentTo accessOf effect runAll run msixWritten
+unfolding lent_to access_of effect run_all run msix_written
 returns-3 c =
     let c5 = c.before.before.before.before.before in
     let c6 = c5.before in
@@ -96,11 +96,11 @@ returns-3 c =
     let on = rw (c6.memory-on.ensures, c7.peer.ensures) at (not-false c6.memory-on.result c5.if2.false) in
     let out = rw (c.before.before.in-table.ensures, c.before.before.before.settings.ensures)
     at (not-true c.before.before.in-table.result c.before.if3.true) in
-    changes-accepted a.hub.now _ _ _ _
-    (region-checked a.hub.now a.id (Act.msixWrite a.offset a.width a.value) a.offset a.width _ _ refl refl
+    changes_accepted a.hub.now _ _ _ _
+    (region_checked a.hub.now a.id (Act.msix_write a.offset a.width a.value) a.offset a.width _ _ refl refl
     c12.nothing_Lent.ensures c10.space-refusal.ensures.0)
     c9.if1.false c.answered3.ensures (λ region. refl)
-    (λ region. rw (on, out) (slot_kept (hubOf a.hub.now) a.id))
+    (λ region. rw (on, out) (slot_kept (hub_of a.hub.now) a.id))
 
 entry-requires : tie.Need-entry-requires
 unfolding in_table
@@ -112,7 +112,7 @@ entry-requires c κs =
     let f = c10.space-refusal.ensures.1.0 c9.if1.false in
     let inside = rw (c.before.before.in-table.ensures, c.before.before.before.settings.ensures)
     at (not-false c.before.before.in-table.result c.before.if3.false) in
-    let v : a.offset / 16 < (hubOf a.hub.now).settings.vectors = ltb-true _ _ inside in
+    let v : a.offset / 16 < (hub_of a.hub.now).settings.vectors = ltb-true _ _ inside in
     (f.known, omega arith)
 
 with-word-requires : tie.Need-with-word-requires
@@ -130,7 +130,7 @@ put-entry-requires c κs =
     let a = c17.args in
     let f = c13.space-refusal.ensures.1.0 c12.if1.false in
     let inside = rw (c5.in-table.ensures, c6.settings.ensures) at (not-false c5.in-table.result c4.if3.false) in
-    let v : a.offset / 16 < (hubOf a.hub.now).settings.vectors = ltb-true _ _ inside in
+    let v : a.offset / 16 < (hub_of a.hub.now).settings.vectors = ltb-true _ _ inside in
     (f.known, omega arith)
 
 answered-requires-4 : tie.Need-answered-requires-4
@@ -140,7 +140,7 @@ same-length-4 : tie.Need-same-length-4
 same-length-4 c = search rules
 
 returns-4 : tie.Need-returns-4
-unfolding lentTo accessOf effect runAll run msixWritten
+unfolding lent_to access_of effect run_all run msix_written
 returns-4 c =
     let c4 = c.before.before.before.before in
     let c6 = c4.before.before in
@@ -157,8 +157,8 @@ returns-4 c =
     let a = c21.args in
     let on = rw (c13.memory-on.ensures, c14.peer.ensures) at (not-false c13.memory-on.result c12.if2.false) in
     let inside = rw (c9.in-table.ensures, c10.settings.ensures) at (not-false c9.in-table.result c8.if3.false) in
-    changes-accepted a.hub.now _ _ _ _
-    (region-checked a.hub.now a.id (Act.msixWrite a.offset a.width a.value) a.offset a.width _ _ refl refl
+    changes_accepted a.hub.now _ _ _ _
+    (region_checked a.hub.now a.id (Act.msix_write a.offset a.width a.value) a.offset a.width _ _ refl refl
     c19.nothing_Lent.ensures c17.space-refusal.ensures.0)
     c16.if1.false c.answered4.ensures (λ region. refl)
     (λ region. rw (on, inside, c.before.before.before.put-entry.ensures, c4.with-word.ensures, c6.entry.ensures))

@@ -3,7 +3,7 @@ use mathlib.Core.Path.{◌∙◌, ap}
 use borrow.Author.Rules.{rules}
 use Rattle.ivshmem.proofs.guest.ivshmem_section_question.Statement.{statement}
 use Rattle.device.specs.declared.SectionReply.{SectionReply}
-use Rattle.ivshmem.specs.Promises.{inNumbers}
+use Rattle.ivshmem.specs.Promises.{in_numbers}
 use Rattle.ivshmem.proofs.guest.ivshmem_section_question.Tie as tie
 
 section-question-requires : tie.Need-section-question-requires
@@ -14,7 +14,7 @@ numbered-requires c κs = search rules
 
 returns : tie.Need-returns
 returns c =
-    λ region. c.numbered.ensures ∙ ap (λ (x : SectionReply). inNumbers x) (c.before.section-question.ensures region)
+    λ region. c.numbered.ensures ∙ ap (λ (x : SectionReply). in_numbers x) (c.before.section-question.ensures region)
 
 pub ivshmem-section-question-spec : {M : Type 1} → statement M
 ivshmem-section-question-spec =

@@ -1,7 +1,7 @@
 -- `ivshmem::guest::kind_number` meets its contract, case by case.
 use borrow.Author.Rules.{rules}
 use Rattle.ivshmem.proofs.guest.kind_number.Statement.{statement}
-use Rattle.device.specs.Sections.{kindNumber}
+use Rattle.device.specs.Sections.{kind_number}
 use Rattle.ivshmem.proofs.guest.kind_number.Tie as tie
 
 enum_told : tie.Need-enum-told
@@ -17,19 +17,19 @@ enum-told-4 : tie.Need-enum-told-4
 enum-told-4 c = search rules
 
 returns : tie.Need-returns
-unfolding kindNumber
+unfolding kind_number
 returns c = search rules
 
 returns-2 : tie.Need-returns-2
-unfolding kindNumber
+unfolding kind_number
 returns-2 c = search rules
 
 returns-3 : tie.Need-returns-3
-unfolding kindNumber
+unfolding kind_number
 returns-3 c = search rules
 
 returns-4 : tie.Need-returns-4
-unfolding kindNumber
+unfolding kind_number
 returns-4 c = search rules
 
 pub kind-number-spec : {M : Type 1} → statement M

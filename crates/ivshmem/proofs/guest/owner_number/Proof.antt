@@ -2,7 +2,7 @@
 use borrow.Author.Rules.{rules}
 use Rattle.ivshmem.proofs.guest.owner_number.Statement.{statement}
 use Rattle.ivshmem.proofs.guest.owner_number.Tie as tie
-use Rattle.device.specs.Sections.{ownerNumber}
+use Rattle.device.specs.Sections.{owner_number}
 
 enum_told : tie.Need-enum-told
 enum_told c = search rules
@@ -20,19 +20,19 @@ cast-result : tie.Need-overflow-cast-result
 cast-result c = search rules
 
 returns : tie.Need-returns
-unfolding ownerNumber
+unfolding owner_number
 returns c = search rules
 
 returns-2 : tie.Need-returns-2
-unfolding ownerNumber
+unfolding owner_number
 returns-2 c = search rules
 
 returns-3 : tie.Need-returns-3
-unfolding ownerNumber
+unfolding owner_number
 returns-3 c = search rules
 
 returns-4 : tie.Need-returns-4
-unfolding ownerNumber
+unfolding owner_number
 returns-4 c = rw c.before.before.kind.given.1
 
 pub owner-number-spec : {M : Type 1} → statement M

@@ -2,7 +2,7 @@
 use native.Mathlib.Omega.{arith}
 use borrow.Author.Rules.{rules}
 use borrow.Author.Tests.{eq-eqb, ne_eqb}
-use Rattle.playback.specs.Answers.{replied, allDelivered}
+use Rattle.playback.specs.Answers.{replied, all_delivered}
 use Rattle.playback.proofs.answers.done.Statement.{statement}
 use Rattle.playback.proofs.answers.done.Tie as tie
 
@@ -23,7 +23,7 @@ same-length-2 : tie.Need-same-length-2
 same-length-2 c = search rules
 
 returns-2 : tie.Need-returns-2
-unfolding replied allDelivered
+unfolding replied all_delivered
 returns-2 c =
     let c4 = c.before.before.before.before in
     record { bytes = rw (eq-eqb _ _ c4.if1.false) c.before.before.put_one.ensures; count = rw (eq-eqb _ _ c4.if1.false); fits = omega arith }

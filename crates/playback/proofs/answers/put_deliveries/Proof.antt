@@ -7,12 +7,12 @@ use lib.ListN.{length, get_or, take, drop, length-take, length-drop}
 use borrow.Author.Rules.{rules}
 use Rattle.common.specs.Lists.{over}
 use Rattle.deliveries.specs.Listed.{listed}
-use Rattle.device.specs.Sizes.{maxPeers}
-use Rattle.gate.specs.RingOutcome.{sentAt}
-use Rattle.words.specs.Layout.{hubOf}
-use Rattle.playback.proofs.DeliveryLaws.{first_of, length-first, first_more}
-use Rattle.playback.proofs.OverLaws.{length_over, over-then}
-use Rattle.playback.specs.Answers.{delivered, allDelivered}
+use Rattle.device.specs.Sizes.{max_peers}
+use Rattle.gate.specs.RingOutcome.{sent_at}
+use Rattle.words.specs.Layout.{hub_of}
+use Rattle.playback.proofs.DeliveryLaws.{first_of, length_first, first_more}
+use Rattle.playback.proofs.OverLaws.{length_over, over_then}
+use Rattle.playback.specs.Answers.{delivered, all_delivered}
 use Rattle.playback.proofs.answers.put_deliveries.Statement.{statement}
 use Rattle.playback.proofs.answers.put_deliveries.Tie as tie
 
@@ -20,17 +20,17 @@ abbrev invariant-loop : tie.invariant-loop
 invariant-loop hub out₀ n v targets i₀ at₀ out i at =
     (i ≤ n)
     × (n ≤ length targets)
-    × (n ≤ maxPeers)
+    × (n ≤ max_peers)
     × (17 * n ≤ length out₀)
     × (at ≡ 17 * i)
     × (length out ≡ length out₀)
-    × (out ≡ over (allDelivered (first_of (hubOf hub) v targets i)) out₀)
+    × (out ≡ over (all_delivered (first_of (hub_of hub) v targets i)) out₀)
 
 abbrev decreases-loop : tie.decreases-loop
 decreases-loop hub out₀ n v targets i₀ at₀ out i at = n - i
 
 loop-holds : tie.Need-loop-init invariant-loop decreases-loop
-unfolding over allDelivered
+unfolding over all_delivered
 loop-holds c = (omega arith, omega arith, omega arith, omega arith, omega arith, refl, refl)
 
 sub-put-delivery : tie.Need-overflow-sub-put-delivery invariant-loop decreases-loop
@@ -43,7 +43,7 @@ part-put-delivery-end : tie.Need-slice-bounds-put-delivery-end invariant-loop de
 part-put-delivery-end c = omega arith
 
 array-read-sent : tie.Need-array-read-sent invariant-loop decreases-loop
-unfolding maxPeers
+unfolding max_peers
 array-read-sent c = omega arith
 
 sent-requires : tie.Need-sent-requires invariant-loop decreases-loop
@@ -69,14 +69,14 @@ loop-again c =
     let out₀ = c11.args.out.now in
     let targets = c11.args.list.targets in
     let v = c11.args.list.vector in
-    let hub = hubOf c11.args.hub.now in
-    let n : length (allDelivered (first_of hub v targets l.i)) ≡ l.at = length-first hub v targets l.i (omega arith) ∙ sym l.invariant.4 in
+    let hub = hub_of c11.args.hub.now in
+    let n : length (all_delivered (first_of hub v targets l.i)) ≡ l.at = length_first hub v targets l.i (omega arith) ∙ sym l.invariant.4 in
     let part = take (length l.out - l.at) (drop l.at l.out) in
-    let rest : c.before.before.put-delivery.new.0 ≡ over (delivered (sentAt hub v (get_or targets l.i 0))) part =
+    let rest : c.before.before.put-delivery.new.0 ≡ over (delivered (sent_at hub v (get_or targets l.i 0))) part =
     rw (← c.before.before.before.sent.ensures) c.before.before.put-delivery.ensures in
-    let all = over-then l.at (allDelivered (first_of hub v targets l.i)) out₀ n (omega arith) l.out _ _ l.invariant.6 rest
+    let all = over_then l.at (all_delivered (first_of hub v targets l.i)) out₀ n (omega arith) l.out _ _ l.invariant.6 rest
     ∙ ap (λ (x : List ℕ). over x out₀) (first_more hub v targets l.i (omega arith)) in
-    let next : length (allDelivered (first_of hub v targets (l.i + 1))) ≡ 17 * (l.i + 1) = length-first hub v targets (l.i + 1) (omega arith) in
+    let next : length (all_delivered (first_of hub v targets (l.i + 1))) ≡ 17 * (l.i + 1) = length_first hub v targets (l.i + 1) (omega arith) in
     (omega arith, omega arith, omega arith, omega arith, omega arith, ap length all ∙ length_over _ out₀ (omega arith), all)
 
 same_length : tie.Need-same-length invariant-loop decreases-loop

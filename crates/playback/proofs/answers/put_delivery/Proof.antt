@@ -3,7 +3,7 @@ use mathlib.Core.List.{[], ◌∷◌}
 use mathlib.Core.Path.{refl}
 use native.Mathlib.Omega.{arith}
 use borrow.Author.Rules.{rules}
-use Rattle.playback.proofs.OverLaws.{over-then}
+use Rattle.playback.proofs.OverLaws.{over_then}
 use Rattle.playback.specs.Answers.{parts, delivered}
 use Rattle.playback.proofs.answers.put_delivery.Statement.{statement}
 use Rattle.playback.proofs.answers.put_delivery.Tie as tie
@@ -32,7 +32,7 @@ returns c =
     let c6 = c.before.before.before.before.before.before in
     let c9 = c6.before.before.before in
     let a = c9.args in
-    over-then 1 (0x83 ∷ []) a.out.now (refl) (omega arith) _ (parts a.d) _ c6.put_one.ensures c.before.before.put-parts.ensures
+    over_then 1 (0x83 ∷ []) a.out.now (refl) (omega arith) _ (parts a.d) _ c6.put_one.ensures c.before.before.put-parts.ensures
 
 pub put-delivery-spec : {M : Type 1} → statement M
 put-delivery-spec =

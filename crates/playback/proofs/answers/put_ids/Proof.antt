@@ -1,9 +1,9 @@
 -- `playback::answers::put_ids` meets its contract: one part is written behind the other.
 use native.Mathlib.Omega.{arith}
 use borrow.Author.Rules.{rules}
-use Rattle.common.proofs.ByteLaws.{length-bytes}
+use Rattle.common.proofs.ByteLaws.{length_bytes}
 use Rattle.common.specs.Bytes.{bytes}
-use Rattle.playback.proofs.OverLaws.{over-then}
+use Rattle.playback.proofs.OverLaws.{over_then}
 use Rattle.playback.proofs.answers.put_ids.Statement.{statement}
 use Rattle.playback.proofs.answers.put_ids.Tie as tie
 
@@ -30,7 +30,7 @@ returns c =
     let c6 = c.before.before.before.before.before.before in
     let c9 = c6.before.before.before in
     let a = c9.args in
-    over-then 2 (bytes 2 a.target) a.out.now (length-bytes 2 _) (omega arith) _ (bytes 2 a.vector) _
+    over_then 2 (bytes 2 a.target) a.out.now (length_bytes 2 _) (omega arith) _ (bytes 2 a.vector) _
     c6.put_two.ensures c.before.before.put-two2.ensures
 
 pub put-ids-spec : {M : Type 1} → statement M

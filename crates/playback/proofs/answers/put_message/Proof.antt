@@ -1,9 +1,9 @@
 -- `playback::answers::put_message` meets its contract: one part is written behind the other.
 use native.Mathlib.Omega.{arith}
 use borrow.Author.Rules.{rules}
-use Rattle.common.proofs.ByteLaws.{length-bytes}
+use Rattle.common.proofs.ByteLaws.{length_bytes}
 use Rattle.common.specs.Bytes.{bytes}
-use Rattle.playback.proofs.OverLaws.{over-then}
+use Rattle.playback.proofs.OverLaws.{over_then}
 use Rattle.playback.proofs.answers.put_message.Statement.{statement}
 use Rattle.playback.proofs.answers.put_message.Tie as tie
 
@@ -30,7 +30,7 @@ returns c =
     let c6 = c.before.before.before.before.before.before in
     let c9 = c6.before.before.before in
     let a = c9.args in
-    over-then 8 (bytes 8 a.address) a.out.now (length-bytes 8 _) (omega arith) _ (bytes 4 a.payload) _
+    over_then 8 (bytes 8 a.address) a.out.now (length_bytes 8 _) (omega arith) _ (bytes 4 a.payload) _
     c6.put-eight.ensures c.before.before.put_four.ensures
 
 pub put-message-spec : {M : Type 1} → statement M

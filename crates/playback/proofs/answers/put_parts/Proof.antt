@@ -3,9 +3,9 @@ use mathlib.Core.List.{◌++◌}
 use native.Mathlib.Omega.{arith}
 use lib.ListN.{length-append}
 use borrow.Author.Rules.{rules}
-use Rattle.common.proofs.ByteLaws.{length-bytes}
+use Rattle.common.proofs.ByteLaws.{length_bytes}
 use Rattle.common.specs.Bytes.{bytes}
-use Rattle.playback.proofs.OverLaws.{over-then}
+use Rattle.playback.proofs.OverLaws.{over_then}
 use Rattle.playback.proofs.answers.put_parts.Statement.{statement}
 use Rattle.playback.proofs.answers.put_parts.Tie as tie
 
@@ -32,7 +32,7 @@ returns c =
     let c6 = c.before.before.before.before.before.before in
     let c9 = c6.before.before.before in
     let a = c9.args in
-    over-then 4 (bytes 2 a.d.target.0 ++ bytes 2 a.d.vector.0) a.out.now (simp (length-append, length-bytes))
+    over_then 4 (bytes 2 a.d.target.0 ++ bytes 2 a.d.vector.0) a.out.now (simp (length-append, length_bytes))
     (omega arith) _ (bytes 8 a.d.address ++ bytes 4 a.d.payload) _ c6.put-ids.ensures
     c.before.before.put-message.ensures
 

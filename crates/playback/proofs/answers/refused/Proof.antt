@@ -2,7 +2,7 @@
 use mathlib.Core.Path.{refl}
 use borrow.Author.Rules.{rules}
 use Rattle.common.specs.Bytes.{bytes}
-use Rattle.playback.proofs.OverLaws.{two-over}
+use Rattle.playback.proofs.OverLaws.{two_over}
 use Rattle.playback.proofs.answers.refused.Statement.{statement}
 use Rattle.playback.proofs.answers.refused.Tie as tie
 
@@ -20,7 +20,7 @@ same_length c = search rules
 
 returns : tie.Need-returns
 unfolding bytes
-returns c = record { bytes = two-over c.args.out.now _ _ c.requires; count = refl; fits = c.requires }
+returns c = record { bytes = two_over c.args.out.now _ _ c.requires; count = refl; fits = c.requires }
 
 pub refused-spec : {M : Type 1} → statement M
 refused-spec = tie.close (tie.spec slice-write-out cast-out slice-write-out-2 same_length returns)

@@ -8,16 +8,16 @@ use borrow.Author.Rules.{rules}
 use borrow.Author.Tests.{eq-eqb, ne_eqb}
 use Rattle.deliveries.proofs.ListedLaws.{counted}
 use Rattle.deliveries.specs.Listed.{listed}
-use Rattle.device.proofs.SizeLaws.{maxPeers-pos}
-use Rattle.words.specs.Layout.{hubOf}
-use Rattle.playback.proofs.DeliveryLaws.{length-all}
-use Rattle.playback.proofs.OverLaws.{over-then}
-use Rattle.playback.specs.Answers.{replied, allDelivered}
+use Rattle.device.proofs.SizeLaws.{max_peers_pos}
+use Rattle.words.specs.Layout.{hub_of}
+use Rattle.playback.proofs.DeliveryLaws.{length_all}
+use Rattle.playback.proofs.OverLaws.{over_then}
+use Rattle.playback.specs.Answers.{replied, all_delivered}
 use Rattle.playback.proofs.answers.served.Statement.{statement}
 use Rattle.playback.proofs.answers.served.Tie as tie
 
 refused-requires : tie.Need-refused-requires
-refused-requires c κs = omega (arith, maxPeers-pos)
+refused-requires c κs = omega (arith, max_peers_pos)
 
 same_length : tie.Need-same-length
 same_length c = search rules
@@ -57,11 +57,11 @@ returns-2 c =
     let c9 = c7.before.before in
     let c12 = c9.before.before.before in
     let a = c12.args in
-    let ds = listed (hubOf a.hub.now) a.list in
-    let all = over-then 1 (0x81 ∷ []) a.out.now refl (omega arith) _ (allDelivered ds) _ c7.put_one.ensures
+    let ds = listed (hub_of a.hub.now) a.list in
+    let all = over_then 1 (0x81 ∷ []) a.out.now refl (omega arith) _ (all_delivered ds) _ c7.put_one.ensures
     c.before.before.before.put-deliveries.ensures in
-    let n : 1 + 17 * a.list.count ≡ suc (length (allDelivered ds)) =
-    rw (length-all ds, ← counted (hubOf a.hub.now) a.list c12.requires.0) (omega arith) in
+    let n : 1 + 17 * a.list.count ≡ suc (length (all_delivered ds)) =
+    rw (length_all ds, ← counted (hub_of a.hub.now) a.list c12.requires.0) (omega arith) in
     record { bytes = rw (eq-eqb _ _ c9.if1.false) all; count = rw (eq-eqb _ _ c9.if1.false) n; fits = omega arith }
 
 pub served-spec : {M : Type 1} → statement M

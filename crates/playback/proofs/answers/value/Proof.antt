@@ -6,9 +6,9 @@ use native.Mathlib.Omega.{arith}
 use lib.ListN.{length}
 use borrow.Author.Rules.{rules}
 use borrow.Author.Tests.{eq-eqb, ne_eqb}
-use Rattle.common.proofs.ByteLaws.{length-bytes}
+use Rattle.common.proofs.ByteLaws.{length_bytes}
 use Rattle.common.specs.Bytes.{bytes}
-use Rattle.playback.proofs.OverLaws.{over-then}
+use Rattle.playback.proofs.OverLaws.{over_then}
 use Rattle.playback.specs.Answers.{replied, valued}
 use Rattle.playback.proofs.answers.value.Statement.{statement}
 use Rattle.playback.proofs.answers.value.Tie as tie
@@ -48,8 +48,8 @@ returns-2 c =
     let c8 = c6.before.before in
     let c10 = c8.before.before in
     let a = c10.args in
-    let all = over-then 1 (0x82 ∷ []) a.out.now refl (omega arith) _ (bytes 4 a.x) _ c6.put_one.ensures c.before.before.put_four.ensures in
-    let n : 5 ≡ length (valued a.x) = ap suc (sym (length-bytes 4 a.x)) in
+    let all = over_then 1 (0x82 ∷ []) a.out.now refl (omega arith) _ (bytes 4 a.x) _ c6.put_one.ensures c.before.before.put_four.ensures in
+    let n : 5 ≡ length (valued a.x) = ap suc (sym (length_bytes 4 a.x)) in
     record { bytes = rw (eq-eqb _ _ c8.if1.false) all; count = rw (eq-eqb _ _ c8.if1.false) n; fits = omega arith }
 
 pub value_spec : {M : Type 1} → statement M

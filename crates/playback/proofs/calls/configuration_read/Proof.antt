@@ -2,10 +2,10 @@
 use mathlib.Core.Path.{refl}
 use native.Mathlib.Omega.{arith}
 use borrow.Author.Rules.{rules}
-use Rattle.device.proofs.SizeLaws.{maxPeers-pos}
-use Rattle.device.proofs.StepLaws.{readsOnly}
+use Rattle.device.proofs.SizeLaws.{max_peers_pos}
+use Rattle.device.proofs.StepLaws.{reads_only}
 use Rattle.device.specs.Call.{Act, call}
-use Rattle.playback.proofs.CallLaws.{reads-answer}
+use Rattle.playback.proofs.CallLaws.{reads_answer}
 use Rattle.playback.proofs.calls.configuration_read.Statement.{statement}
 use Rattle.playback.proofs.calls.configuration_read.Tie as tie
 
@@ -22,13 +22,13 @@ configuration-read-requires : tie.Need-configuration-read-requires
 configuration-read-requires c κs = search rules
 
 value-requires : tie.Need-value-requires
-value-requires c κs = omega (arith, maxPeers-pos)
+value-requires c κs = omega (arith, max_peers_pos)
 
 same_length : tie.Need-same-length
 same_length c = search rules
 
 returns : tie.Need-returns
-unfolding readsOnly
+unfolding reads_only
 returns c =
     let c4 = c.before.before.before.before in
     let c5 = c4.before in
@@ -37,8 +37,8 @@ returns c =
     let c11 = c7.before.before.before.before in
     let a = c11.args in
     λ region. rw (← c7.id.ensures, ← c6.offset.ensures, ← c5.width.ensures)
-    (reads-answer a.hub.now region a.out.now _
-    (call c7.id.result (Act.configurationRead c6.offset.result c5.width.result)) _ _ refl
+    (reads_answer a.hub.now region a.out.now _
+    (call c7.id.result (Act.configuration_read c6.offset.result c5.width.result)) _ _ refl
     c4.configuration-read.ensures c.before.before.value.ensures)
 
 pub configuration-read-spec : {M : Type 1} → statement M

@@ -2,8 +2,8 @@
 use native.Mathlib.Omega.{arith}
 use borrow.Author.Rules.{rules}
 use Rattle.device.specs.Call.{Act, call}
-use Rattle.ivshmem.proofs.TableLaws.{can-hand-out, disconnect-room}
-use Rattle.playback.proofs.CallLaws.{served-answer}
+use Rattle.ivshmem.proofs.TableLaws.{can_hand_out, disconnect_room}
+use Rattle.playback.proofs.CallLaws.{served_answer}
 use Rattle.playback.proofs.calls.disconnect.Statement.{statement}
 use Rattle.playback.proofs.calls.disconnect.Tie as tie
 
@@ -23,8 +23,8 @@ served-requires c κs =
     let c10 = c9.before in
     let c17 = c10.before.before.before.before.before.before.before in
     let a = c17.args in
-    let s = can-hand-out a.hub.now _ a.region.now _ c9.id.result Act.disconnect c8.disconnect.result
-    c10.max-peers.result disconnect-room c8.disconnect.ensures in
+    let s = can_hand_out a.hub.now _ a.region.now _ c9.id.result Act.disconnect c8.disconnect.result
+    c10.max-peers.result disconnect_room c8.disconnect.ensures in
     (s.0, rw (← c10.max-peers.ensures) s.1, omega arith)
 
 same_length : tie.Need-same-length
@@ -43,7 +43,7 @@ returns c =
     let c13 = c12.before in
     let c20 = c13.before.before.before.before.before.before.before in
     let a = c20.args in
-    rw (← c12.id.ensures, ← c13.max-peers.ensures) (served-answer a.hub.now a.region.now a.out.now _
+    rw (← c12.id.ensures, ← c13.max-peers.ensures) (served_answer a.hub.now a.region.now a.out.now _
     (call c12.id.result (Act.disconnect c13.max-peers.result)) _ _ _ _ c11.disconnect.ensures
     c.before.before.served.ensures)
 

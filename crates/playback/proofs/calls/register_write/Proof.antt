@@ -2,8 +2,8 @@
 use native.Mathlib.Omega.{arith}
 use borrow.Author.Rules.{rules}
 use Rattle.device.specs.Call.{Act, call}
-use Rattle.ivshmem.proofs.TableLaws.{can-hand-out, register-write-room}
-use Rattle.playback.proofs.CallLaws.{served-answer}
+use Rattle.ivshmem.proofs.TableLaws.{can_hand_out, register_write_room}
+use Rattle.playback.proofs.CallLaws.{served_answer}
 use Rattle.playback.proofs.calls.register_write.Statement.{statement}
 use Rattle.playback.proofs.calls.register_write.Tie as tie
 
@@ -31,8 +31,8 @@ served-requires c κs =
     let c14 = c13.before in
     let c19 = c14.before.before.before.before.before in
     let a = c19.args in
-    let s = can-hand-out a.hub.now _ a.region.now _ c10.id.result (λ k. Act.registerWrite k c9.offset.result 4
-    c14.four.result) c8.register-write.result c13.max-peers.result (register-write-room c9.offset.result 4
+    let s = can_hand_out a.hub.now _ a.region.now _ c10.id.result (λ k. Act.register_write k c9.offset.result 4
+    c14.four.result) c8.register-write.result c13.max-peers.result (register_write_room c9.offset.result 4
     c14.four.result) c8.register-write.ensures in
     (s.0, rw (← c13.max-peers.ensures) s.1, omega arith)
 
@@ -55,8 +55,8 @@ returns c =
     let c22 = c17.before.before.before.before.before in
     let a = c22.args in
     rw (← c13.id.ensures, ← c16.max-peers.ensures, ← c12.offset.ensures, ← c17.four.ensures)
-    (served-answer a.hub.now a.region.now a.out.now _
-    (call c13.id.result (Act.registerWrite c16.max-peers.result c12.offset.result 4 c17.four.result)) _ _ _
+    (served_answer a.hub.now a.region.now a.out.now _
+    (call c13.id.result (Act.register_write c16.max-peers.result c12.offset.result 4 c17.four.result)) _ _ _
     _ c11.register-write.ensures c.before.before.served.ensures)
 
 pub register-write-spec : {M : Type 1} → statement M

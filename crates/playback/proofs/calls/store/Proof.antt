@@ -6,11 +6,11 @@ use mathlib.Core.Path.{refl}
 use native.Mathlib.Omega.{arith}
 use lib.ListN.{take, drop}
 use borrow.Author.Rules.{rules}
-use Rattle.device.proofs.QuietLaws.{mayRing}
-use Rattle.device.proofs.SizeLaws.{maxPeers-pos}
+use Rattle.device.proofs.QuietLaws.{may_ring}
+use Rattle.device.proofs.SizeLaws.{max_peers_pos}
 use Rattle.device.specs.Call.{Act, call}
-use Rattle.playback.proofs.CallLaws.{stores-answer}
-use Rattle.playback.proofs.FieldLaws.{one-part}
+use Rattle.playback.proofs.CallLaws.{stores_answer}
+use Rattle.playback.proofs.FieldLaws.{one_part}
 use Rattle.playback.specs.Log.{field}
 use Rattle.playback.proofs.calls.store.Statement.{statement}
 use Rattle.playback.proofs.calls.store.Tie as tie
@@ -34,7 +34,7 @@ store-requires : tie.Need-store-requires
 store-requires c κs = search rules
 
 done-requires : tie.Need-done-requires
-done-requires c κs = omega (arith, maxPeers-pos)
+done-requires c κs = omega (arith, max_peers_pos)
 
 same_length : tie.Need-same-length
 same_length c = search rules
@@ -43,15 +43,15 @@ same-length-2 : tie.Need-same-length-2
 same-length-2 c = search rules
 
 returns : tie.Need-returns
-unfolding mayRing
+unfolding may_ring
 returns c =
     let c6 = c.before.before.before.before.before.before in
     let c8 = c6.before.before in
     let c9 = c8.before in
     let c15 = c9.before.before.before.before.before.before in
     let a = c15.args in
-    let one : take (8 - 7) (drop 7 a.fields.now) ≡ field 7 1 a.fields.now ∷ [] = one-part 7 a.fields.now (omega arith) in
-    rw (← c9.id.ensures, ← c8.shared_offset.ensures, ← one) (stores-answer a.hub.now a.region.now
+    let one : take (8 - 7) (drop 7 a.fields.now) ≡ field 7 1 a.fields.now ∷ [] = one_part 7 a.fields.now (omega arith) in
+    rw (← c9.id.ensures, ← c8.shared_offset.ensures, ← one) (stores_answer a.hub.now a.region.now
     a.out.now _ (call c9.id.result (Act.store c8.shared_offset.result _)) _ _ _ refl c6.store.ensures
     c.before.before.done.ensures)
 

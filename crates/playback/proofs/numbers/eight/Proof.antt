@@ -2,7 +2,7 @@
 use mathlib.Core.Path.{sym}
 use native.Mathlib.Omega.{arith}
 use borrow.Author.Rules.{rules}
-use Rattle.playback.proofs.FieldLaws.{field-parts}
+use Rattle.playback.proofs.FieldLaws.{field_parts}
 use Rattle.playback.proofs.numbers.eight.Statement.{statement}
 use Rattle.playback.proofs.numbers.eight.Tie as tie
 
@@ -30,7 +30,7 @@ add-result c = search rules
 returns : tie.Need-returns
 returns c =
     let a = c.before.before.before.args in
-    rw (c.before.four.ensures, c.four2.ensures) (sym (field-parts a.at 4 4 a.fields.now (omega arith)))
+    rw (c.before.four.ensures, c.four2.ensures) (sym (field_parts a.at 4 4 a.fields.now (omega arith)))
 
 pub eight-spec : {M : Type 1} → statement M
 eight-spec =

@@ -2,7 +2,7 @@
 use mathlib.Core.Path.{sym}
 use native.Mathlib.Omega.{arith}
 use borrow.Author.Rules.{rules}
-use Rattle.playback.proofs.FieldLaws.{field-parts}
+use Rattle.playback.proofs.FieldLaws.{field_parts}
 use Rattle.playback.proofs.numbers.four.Statement.{statement}
 use Rattle.playback.proofs.numbers.four.Tie as tie
 
@@ -30,7 +30,7 @@ add-result c = search rules
 returns : tie.Need-returns
 returns c =
     let a = c.before.before.before.args in
-    rw (c.before.two.ensures, c.two2.ensures) (sym (field-parts a.at 2 2 a.fields.now (omega arith)))
+    rw (c.before.two.ensures, c.two2.ensures) (sym (field_parts a.at 2 2 a.fields.now (omega arith)))
 
 pub four-spec : {M : Type 1} → statement M
 four-spec =

@@ -4,11 +4,11 @@ use mathlib.Core.List.{List}
 use mathlib.Core.Path.{ap, ◌∙◌}
 use native.Mathlib.Omega.{arith}
 use borrow.Author.Rules.{rules}
-use Rattle.common.proofs.ByteLaws.{length-bytes}
+use Rattle.common.proofs.ByteLaws.{length_bytes}
 use Rattle.common.specs.Bytes.{bytes}
 use Rattle.common.specs.Lists.{over}
-use Rattle.playback.proofs.FieldLaws.{bytes-split}
-use Rattle.playback.proofs.OverLaws.{over-then}
+use Rattle.playback.proofs.FieldLaws.{bytes_split}
+use Rattle.playback.proofs.OverLaws.{over_then}
 use Rattle.playback.proofs.numbers.put_eight.Statement.{statement}
 use Rattle.playback.proofs.numbers.put_eight.Tie as tie
 
@@ -41,9 +41,9 @@ returns c =
     let c6 = c.before.before.before.before.before.before in
     let c9 = c6.before.before.before in
     let a = c9.args in
-    over-then 4 (bytes 4 (a.x % 4294967296)) a.out.now (length-bytes 4 _) (omega arith) _
+    over_then 4 (bytes 4 (a.x % 4294967296)) a.out.now (length_bytes 4 _) (omega arith) _
     (bytes 4 (a.x / 4294967296 % 4294967296)) _ c6.put_four.ensures c.before.before.put-four2.ensures
-    ∙ ap (λ (l : List ℕ). over l a.out.now) (bytes-split 4 4 a.x)
+    ∙ ap (λ (l : List ℕ). over l a.out.now) (bytes_split 4 4 a.x)
 
 pub put-eight-spec : {M : Type 1} → statement M
 put-eight-spec =

@@ -1,7 +1,7 @@
 -- `playback::numbers::put_two` meets its contract: two stores leave the two bytes.
 use borrow.Author.Rules.{rules}
 use Rattle.common.specs.Bytes.{bytes}
-use Rattle.playback.proofs.OverLaws.{two-over}
+use Rattle.playback.proofs.OverLaws.{two_over}
 use Rattle.playback.proofs.numbers.put_two.Statement.{statement}
 use Rattle.playback.proofs.numbers.put_two.Tie as tie
 
@@ -22,7 +22,7 @@ same_length c = search rules
 
 returns : tie.Need-returns
 unfolding bytes
-returns c = two-over c.args.out.now _ _ c.requires
+returns c = two_over c.args.out.now _ _ c.requires
 
 pub put-two-spec : {M : Type 1} → statement M
 put-two-spec =

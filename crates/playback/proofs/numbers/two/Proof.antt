@@ -4,7 +4,7 @@ use mathlib.Core.Path.{◌≡◌}
 use native.Mathlib.Omega.{arith}
 use lib.ListN.{get_or}
 use borrow.Author.Rules.{rules}
-use Rattle.playback.proofs.FieldLaws.{field-one, field-parts}
+use Rattle.playback.proofs.FieldLaws.{field_one, field_parts}
 use Rattle.playback.specs.Log.{field}
 use Rattle.playback.proofs.numbers.two.Statement.{statement}
 use Rattle.playback.proofs.numbers.two.Tie as tie
@@ -47,9 +47,9 @@ add-result-2 c = omega (
 returns : tie.Need-returns
 returns c =
     let a = c.before.before.args in
-    let low : field a.at 1 a.fields.now ≡ get_or a.fields.now a.at 0 = field-one a.at a.fields.now (omega arith) in
-    let high : field (a.at + 1) 1 a.fields.now ≡ get_or a.fields.now (a.at + 1) 0 = field-one (a.at + 1) a.fields.now (omega arith) in
-    rw (field-parts a.at 1 1 a.fields.now (omega arith), low, high)
+    let low : field a.at 1 a.fields.now ≡ get_or a.fields.now a.at 0 = field_one a.at a.fields.now (omega arith) in
+    let high : field (a.at + 1) 1 a.fields.now ≡ get_or a.fields.now (a.at + 1) 0 = field_one (a.at + 1) a.fields.now (omega arith) in
+    rw (field_parts a.at 1 1 a.fields.now (omega arith), low, high)
 
 pub two-spec : {M : Type 1} → statement M
 two-spec =

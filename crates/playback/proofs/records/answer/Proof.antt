@@ -4,21 +4,21 @@ use native.Mathlib.Omega.{arith}
 use lib.ListN.{get_or}
 use lib.Seq.{length-take-le}
 use borrow.Author.Rules.{rules}
-use Rattle.device.proofs.SizeLaws.{maxPeers-pos}
-use Rattle.playback.proofs.GoesLaws.{unknown-goes, call-goes}
-use Rattle.playback.proofs.RecordLaws.{record-some, unknown-request, known-goes-on}
-use Rattle.playback.specs.Log.{kind_of, recordLength, requestOf}
-use Rattle.playback.specs.Promises.{worldIn}
+use Rattle.device.proofs.SizeLaws.{max_peers_pos}
+use Rattle.playback.proofs.GoesLaws.{unknown_goes, call_goes}
+use Rattle.playback.proofs.RecordLaws.{record_some, unknown_request, known_goes_on}
+use Rattle.playback.specs.Log.{kind_of, record_length, request_of}
+use Rattle.playback.specs.Promises.{world_in}
 use Rattle.playback.proofs.records.answer.Statement.{statement}
 use Rattle.playback.proofs.records.answer.Tie as tie
 
 shared-slice-read-kind : tie.Need-shared-slice-read-kind
 shared-slice-read-kind c =
     let c5 = c.before.before.before.before.before in
-    omega (arith, record-some (kind_of c5.args.fields.now), c5.requires)
+    omega (arith, record_some (kind_of c5.args.fields.now), c5.requires)
 
 set-up-requires : tie.Need-set-up-requires
-unfolding kind_of recordLength
+unfolding kind_of record_length
 set-up-requires c κs =
     let c9 = c.before.before.before.before.before.before.before.before.before in
     (c9.requires.0, (rw c.before.before.before.if1.true at c9.requires.1.1.0, c9.requires.1.1.1))
@@ -33,13 +33,13 @@ same-length-3 : tie.Need-same-length-3
 same-length-3 c = search rules
 
 returns : tie.Need-returns
-unfolding kind_of requestOf
+unfolding kind_of request_of
 returns c =
     let c6 = c.before.before.before.before.before.before in
     let c10 = c6.before.before.before.before in
     let c16 = c10.before.before.before.before.before.before in
     let a = c16.args in
-    λ held n. rw c10.if1.true (c6.set-up.ensures held n (worldIn a.hub.now a.region.now a.words a.bytes))
+    λ held n. rw c10.if1.true (c6.set-up.ensures held n (world_in a.hub.now a.region.now a.words a.bytes))
 
 put-one-requires : tie.Need-put-one-requires
 put-one-requires c κs = search rules
@@ -56,12 +56,12 @@ returns-2 c =
     let c5 = c.before.before.before.before.before in
     let c12 = c5.before.before.before.before.before.before.before in
     let a = c12.args in
-    λ held n. rw (c.progress.ensures, unknown-request (get_or a.fields.now 0 0) a.fields.now c5.if2.true)
-    (unknown-goes a.hub.now a.region.now held a.out.now _ a.words a.bytes _
+    λ held n. rw (c.progress.ensures, unknown_request (get_or a.fields.now 0 0) a.fields.now c5.if2.true)
+    (unknown_goes a.hub.now a.region.now held a.out.now _ a.words a.bytes _
     (record {
-      hubLength = c12.requires.0.0;
-      regionLength = c12.requires.0.1;
-      heldLength = n;
+      hub_length = c12.requires.0.0;
+      region_length = c12.requires.0.1;
+      held_length = n;
       words = c12.requires.1.0.0;
       bytes = c12.requires.1.0.1;
       few = omega arith;
@@ -69,7 +69,7 @@ returns-2 c =
       bytes = c.before.before.before.put_one.ensures;
       count =
           refl;
-      fits = omega (arith, maxPeers-pos, c12.requires);
+      fits = omega (arith, max_peers_pos, c12.requires);
     }))
 
 slice-relend-prefix-call : tie.Need-slice-relend-prefix-call
@@ -114,14 +114,14 @@ returns-3 c =
     let c11 = c7.before.before.before.before in
     let c18 = c11.before.before.before.before.before.before.before in
     let a = c18.args in
-    let on = known-goes-on (worldIn a.hub.now a.region.now a.words a.bytes) (get_or a.fields.now 0 0)
+    let on = known_goes_on (world_in a.hub.now a.region.now a.words a.bytes) (get_or a.fields.now 0 0)
     a.fields.now (omega (arith, c11.if2.false)) in
     λ held n. rw c.progress2.ensures
-    (call-goes a.hub.now a.region.now held a.out.now _ a.words a.bytes _ c7.call.new.0
+    (call_goes a.hub.now a.region.now held a.out.now _ a.words a.bytes _ c7.call.new.0
     c7.call.new.1.0 _ on (record {
-      hubLength = c18.requires.0.0;
-      regionLength = c18.requires.0.1;
-      heldLength = n;
+      hub_length = c18.requires.0.0;
+      region_length = c18.requires.0.1;
+      held_length = n;
       words = c18.requires.1.0.0;
       bytes = c18.requires.1.0.1;
       few = omega arith;

@@ -7,12 +7,12 @@ use lib.ListN.{length}
 use lib.Seq.{length-take-le}
 use borrow.Author.Rules.{rules}
 use borrow.Author.Tests.{not-true, not-false}
-use Rattle.device.proofs.SetUpLaws.{accepted-facts}
-use Rattle.device.proofs.SizeLaws.{maxPeers-pos}
+use Rattle.device.proofs.SetUpLaws.{accepted_facts}
+use Rattle.device.proofs.SizeLaws.{max_peers_pos}
 use Rattle.device.specs.SetUp.{accepted, total}
-use Rattle.playback.proofs.SetUpLaws.{without, hub-room, refused-goes, taken-goes}
-use Rattle.playback.specs.Answers.{maxTotal, setUpNumber}
-use Rattle.playback.specs.Log.{settingsIn}
+use Rattle.playback.proofs.SetUpLaws.{without, hub_room, refused_goes, taken_goes}
+use Rattle.playback.specs.Answers.{max_total, set_up_number}
+use Rattle.playback.specs.Log.{settings_in}
 use Rattle.playback.proofs.records.set_up.Statement.{statement}
 use Rattle.playback.proofs.records.set_up.Tie as tie
 
@@ -23,7 +23,7 @@ playable-requires : tie.Need-playable-requires
 playable-requires c κs = search rules
 
 refused-requires : tie.Need-refused-requires
-refused-requires c κs = omega (arith, maxPeers-pos)
+refused-requires c κs = omega (arith, max_peers_pos)
 
 progress-requires : tie.Need-progress-requires
 progress-requires c κs = search rules
@@ -39,12 +39,12 @@ returns c =
     let c7 = c6.before in
     let c12 = c7.before.before.before.before.before in
     let a = c12.args in
-    let e : setUpNumber (settingsIn a.fields.now) ≡ 1 = rw (← c7.settings.ensures) (c6.playable.ensures.1.1 (not-true _ c5.if1.true)) in
-    λ held n w. rw c.progress.ensures (refused-goes a.hub.now a.region.now held a.out.now _ (settingsIn a.fields.now) w _
+    let e : set_up_number (settings_in a.fields.now) ≡ 1 = rw (← c7.settings.ensures) (c6.playable.ensures.1.1 (not-true _ c5.if1.true)) in
+    λ held n w. rw c.progress.ensures (refused_goes a.hub.now a.region.now held a.out.now _ (settings_in a.fields.now) w _
     (record {
-      hubLength = c12.requires.0.0;
-      regionLength = c12.requires.0.1;
-      heldLength = n;
+      hub_length = c12.requires.0.0;
+      region_length = c12.requires.0.1;
+      held_length = n;
       words = omega arith;
       bytes = omega arith;
       few = omega arith;
@@ -52,7 +52,7 @@ returns c =
 
 hub-words-requires : tie.Need-hub-words-requires
 hub-words-requires c κs =
-    let f = accepted-facts c.before.before.settings.result (c.before.playable.ensures.1.0 (not-false _ c.if1.false)).0 in
+    let f = accepted_facts c.before.before.settings.result (c.before.playable.ensures.1.0 (not-false _ c.if1.false)).0 in
     (f.peers, f.vectors)
 
 total-requires : tie.Need-total-requires
@@ -62,9 +62,9 @@ slice-relend-prefix-set-up : tie.Need-slice-relend-prefix-set-up
 slice-relend-prefix-set-up c =
     let c4 = c.before.before.before.before in
     let c9 = c4.before.before.before.before.before in
-    let f = accepted-facts c4.settings.result (c.before.before.before.playable.ensures.1.0 (not-false _ c.before.before.if1.false)).0 in
+    let f = accepted_facts c4.settings.result (c.before.before.before.playable.ensures.1.0 (not-false _ c.before.before.if1.false)).0 in
     let words : c.before.hub-words.result ≤ length c9.args.hub.now = rw (c.before.hub-words.ensures, c9.requires.0.0)
-    (hub-room _ _ f.peers f.vectors) in
+    (hub_room _ _ f.peers f.vectors) in
     words
 
 slice-aggregate-set-up : tie.Need-slice-aggregate-set-up
@@ -72,11 +72,11 @@ slice-aggregate-set-up c =
     let c4 = c.before.before.before.before in
     let c5 = c4.before in
     let c10 = c5.before.before.before.before.before in
-    let f = accepted-facts c5.settings.result (c4.playable.ensures.1.0 (not-false _ c.before.before.before.if1.false)).0 in
+    let f = accepted_facts c5.settings.result (c4.playable.ensures.1.0 (not-false _ c.before.before.before.if1.false)).0 in
     let words : c.before.before.hub-words.result ≤ length c10.args.hub.now = rw (
       c.before.before.hub-words.ensures,
       c10.requires.0.0,
-    ) (hub-room _ _ f.peers f.vectors) in
+    ) (hub_room _ _ f.peers f.vectors) in
     sym (length-take-le c.before.before.hub-words.result c10.args.hub.now words)
 
 slice-relend-prefix-set-up-2 : tie.Need-slice-relend-prefix-set-up-2
@@ -122,7 +122,7 @@ done-requires : tie.Need-done-requires
 done-requires c κs =
     let c10 = c.before.before.before.before.before.before.before.before.before.before in
     let c20 = c10.before.before.before.before.before.before.before.before.before.before in
-    omega (arith, maxPeers-pos, c20.requires)
+    omega (arith, max_peers_pos, c20.requires)
 
 progress-requires-2 : tie.Need-progress-requires-2
 progress-requires-2 c κs = search rules
@@ -148,19 +148,19 @@ returns-2 c =
     let c18 = c17.before in
     let c19 = c18.before in
     let c24 = c19.before.before.before.before.before in
-    let f = accepted-facts c19.settings.result (c18.playable.ensures.1.0 (not-false _ c17.if1.false)).0 in
-    let words : c16.hub-words.result ≤ length c24.args.hub.now = rw (c16.hub-words.ensures, c24.requires.0.0) (hub-room _ _ f.peers f.vectors) in
+    let f = accepted_facts c19.settings.result (c18.playable.ensures.1.0 (not-false _ c17.if1.false)).0 in
+    let words : c16.hub-words.result ≤ length c24.args.hub.now = rw (c16.hub-words.ensures, c24.requires.0.0) (hub_room _ _ f.peers f.vectors) in
     let bytes : c15.total.result ≤ length c24.args.region.now =
     omega (arith, (c18.playable.ensures.1.0 (not-false _ c17.if1.false)).1, c15.total.ensures, c24.requires.0.1) in
     let a = c24.args in
     let e = c19.settings.ensures in
-    let ok : (accepted (settingsIn a.fields.now) ≡ true) × (total (settingsIn a.fields.now) ≤ maxTotal) = rw e
+    let ok : (accepted (settings_in a.fields.now) ≡ true) × (total (settings_in a.fields.now) ≤ max_total) = rw e
     at (c18.playable.ensures.1.0 (not-false _ c17.if1.false)) in
     let sv = rw (c12.two.ensures, c11.two2.ensures, c10.two3.ensures, e) at c9.set-up.ensures in
-    λ held n w. rw c.progress2.ensures (taken-goes a.hub.now a.region.now held a.out.now _
-    (settingsIn a.fields.now) w _ c16.hub-words.result c15.total.result
+    λ held n w. rw c.progress2.ensures (taken_goes a.hub.now a.region.now held a.out.now _
+    (settings_in a.fields.now) w _ c16.hub-words.result c15.total.result
     c9.set-up.new.0 c9.set-up.new.1.0 _ ok (rw e at c16.hub-words.ensures) (rw e at c15.total.ensures)
-    (record { hubLength = c24.requires.0.0; regionLength = c24.requires.0.1; heldLength = n; words = words; bytes = bytes; few = omega arith })
+    (record { hub_length = c24.requires.0.0; region_length = c24.requires.0.1; held_length = n; words = words; bytes = bytes; few = omega arith })
     (c9.set-up.auto.0 ∙ length-take-le c16.hub-words.result a.hub.now words) (c9.set-up.auto.1.0
     ∙ length-take-le c15.total.result a.region.now bytes) sv c.before.before.before.done.ensures)
 

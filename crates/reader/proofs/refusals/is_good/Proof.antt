@@ -5,7 +5,7 @@ use lib.Dec.{leb}
 use lib.ListN.{get_or}
 use borrow.Author.Rules.{rules}
 use Rattle.common.specs.Tests.{every, below}
-use Rattle.reader.proofs.GoodLaws.{bound-zero, none_within}
+use Rattle.reader.proofs.GoodLaws.{bound_zero, none_within}
 use Rattle.reader.specs.Reading.{good}
 use Rattle.reader.specs.Sizes.{ids}
 use Rattle.reader.proofs.refusals.is_good.Statement.{statement}
@@ -28,7 +28,7 @@ returns c =
     let all = ap (λ (n : ℕ). below n (λ i. leb (get_or a.counts.now i 0) a.vectors)) c.before.before.before.before.before.before.before.before.requires in
     let few = ap (λ (n : ℕ). below n (λ i. leb (get_or a.counts.now i 0) 0)) c.before.before.before.before.before.before.before.before.requires in
     let within = l.ensures a.vectors ∙ all in
-    let none = sym (bound-zero l.result) ∙ l.ensures 0 ∙ few ∙ none_within a.counts.now ids in
+    let none = sym (bound_zero l.result) ∙ l.ensures 0 ∙ few ∙ none_within a.counts.now ids in
     rw (within, none)
 
 pub is-good-spec : {M : Type 1} → statement M

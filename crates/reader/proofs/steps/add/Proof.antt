@@ -2,7 +2,7 @@
 use native.Mathlib.Omega.{arith}
 use borrow.Author.Rules.{rules}
 use borrow.Author.Tests.{lt-ltb, le-ltb}
-use Rattle.reader.proofs.SizeLaws.{mostVectors-byte}
+use Rattle.reader.proofs.SizeLaws.{most_vectors_byte}
 use Rattle.reader.specs.Steps.{adds}
 use Rattle.reader.proofs.steps.add.Statement.{statement}
 use Rattle.reader.proofs.steps.add.Tie as tie
@@ -14,13 +14,13 @@ cast-if1 : tie.Need-overflow-cast-if1
 cast-if1 c = omega (arith, c.slice-known.given c.before.args.id)
 
 add-counts : tie.Need-overflow-add-counts
-add-counts c = omega (arith, mostVectors-byte)
+add-counts c = omega (arith, most_vectors_byte)
 
 slice-write-counts : tie.Need-slice-write-counts
 slice-write-counts c = search rules
 
 add-t11 : tie.Need-overflow-add-t11
-add-t11 c = omega (arith, mostVectors-byte)
+add-t11 c = omega (arith, most_vectors_byte)
 
 same_length : tie.Need-same-length
 same_length c = search rules

@@ -1,7 +1,7 @@
 -- `reader::steps::is_id` meets its contract.
 use mir.Facts.{to_z-of_z}
 use borrow.Author.Rules.{rules}
-use Rattle.reader.proofs.NumberLaws.{id-order}
+use Rattle.reader.proofs.NumberLaws.{id_order}
 use Rattle.reader.specs.Sizes.{ids}
 use Rattle.reader.proofs.steps.is_id.Statement.{statement}
 use Rattle.reader.proofs.steps.is_id.Tie as tie
@@ -11,7 +11,7 @@ cast-result c = search rules
 
 returns : tie.Need-returns
 unfolding ids
-returns c = rw (to_z-of_z c.ranges.number) (id-order c.args.number)
+returns c = rw (to_z-of_z c.ranges.number) (id_order c.args.number)
 
 pub is-id-spec : {M : Type 1} → statement M
 is-id-spec = tie.close (tie.spec cast-result returns)

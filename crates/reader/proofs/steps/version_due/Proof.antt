@@ -2,7 +2,7 @@
 use mathlib.Core.Path.{◌≡◌, ap, ◌∙◌}
 use mir.Facts.{to_z-of_z}
 use borrow.Author.Rules.{rules}
-use Rattle.reader.specs.Steps.{isVersion, versionStep}
+use Rattle.reader.specs.Steps.{is_version, version_step}
 use Rattle.reader.proofs.steps.version_due.Statement.{statement}
 use Rattle.reader.proofs.steps.version_due.Tie as tie
 
@@ -13,10 +13,10 @@ proceed-requires : tie.Need-proceed-requires
 proceed-requires c κs = search rules
 
 returns : tie.Need-returns
-unfolding versionStep
+unfolding version_step
 returns c =
-    let e : c.before.is-version.result ≡ isVersion c.before.before.args.number =
-    c.before.is-version.ensures ∙ ap isVersion (to_z-of_z c.before.before.ranges.number) in
+    let e : c.before.is-version.result ≡ is_version c.before.before.args.number =
+    c.before.is-version.ensures ∙ ap is_version (to_z-of_z c.before.before.ranges.number) in
     λ due counts. c.proceed.ensures due counts ∙ rw e
 
 pub version-due-spec : {M : Type 1} → statement M

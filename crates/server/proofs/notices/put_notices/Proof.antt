@@ -6,30 +6,30 @@ use native.Mathlib.Omega.{arith}
 use lib.ListN.{length, length-append}
 use lib.Seq.{sets, length-sets}
 use borrow.Author.Rules.{rules}
-use Rattle.reader.proofs.SizeLaws.{ids-byte}
+use Rattle.reader.proofs.SizeLaws.{ids_byte}
 use Rattle.reader.specs.Sizes.{ids}
-use Rattle.server.proofs.FreeLaws.{any_below, all-below}
-use Rattle.server.proofs.RoomLaws.{notices-next, notices-room}
+use Rattle.server.proofs.FreeLaws.{any_below, all_below}
+use Rattle.server.proofs.RoomLaws.{notices_next, notices_room}
 use Rattle.server.proofs.SetsLaws.{sets_behind}
-use Rattle.server.specs.Clients.{joinedAt, joinedBelow, clients}
-use Rattle.server.specs.Messages.{eachOf}
-use Rattle.server.specs.Parts.{noticesBytes}
+use Rattle.server.specs.Clients.{joined_at, joined_below, clients}
+use Rattle.server.specs.Messages.{each_of}
+use Rattle.server.specs.Parts.{notices_bytes}
 use Rattle.server.proofs.notices.put_notices.Statement.{statement}
 use Rattle.server.proofs.notices.put_notices.Tie as tie
 
 abbrev invariant-loop : tie.invariant-loop
 invariant-loop out₀ n joined notice next₀ client₀ out next client =
     (client ≤ ids)
-    × (10 * n + length (noticesBytes notice (clients joined)) ≤ length out₀)
+    × (10 * n + length (notices_bytes notice (clients joined)) ≤ length out₀)
     × (length out ≡ length out₀)
-    × (out ≡ sets out₀ (10 * n) (noticesBytes notice (joinedBelow client joined)))
-    × (10 * next ≡ 10 * n + length (noticesBytes notice (joinedBelow client joined)))
+    × (out ≡ sets out₀ (10 * n) (notices_bytes notice (joined_below client joined)))
+    × (10 * next ≡ 10 * n + length (notices_bytes notice (joined_below client joined)))
 
 abbrev decreases-loop : tie.decreases-loop
 decreases-loop out₀ n joined notice next₀ client₀ out next client = ids - client
 
 loop-holds : tie.Need-loop-init invariant-loop decreases-loop
-unfolding eachOf joinedBelow
+unfolding each_of joined_below
 loop-holds c = (omega arith, omega arith, refl, refl, omega arith)
 
 any-from-requires : tie.Need-any-from-requires invariant-loop decreases-loop
@@ -40,13 +40,13 @@ put-notice-requires c κs =
     let a = c.before.before.before.before.before.args in
     let l = c.before.before.before.loop in
     let h : l.client < ids = any_below _ _ (sym c.before.before.any-from.ensures ∙ c.before.if1.true) in
-    (h, omega (arith, notices-room a.notice a.joined l.client h))
+    (h, omega (arith, notices_room a.notice a.joined l.client h))
 
 add-client : tie.Need-overflow-add-client invariant-loop decreases-loop
 add-client c =
     let c4 = c.before.before.before.before in
     let c5 = c4.before in
-    let h = any_below _ _ (sym c5.any-from.ensures ∙ c4.if1.true) in omega (arith, ids-byte, h)
+    let h = any_below _ _ (sym c5.any-from.ensures ∙ c4.if1.true) in omega (arith, ids_byte, h)
 
 loop-less : tie.Need-loop-smaller invariant-loop decreases-loop
 loop-less c =
@@ -64,10 +64,10 @@ loop-again c =
     let a = c8.args in
     let l = c6.loop in
     let h : l.client < ids = any_below _ _ (sym c5.any-from.ensures ∙ c4.if1.true) in
-    let new = noticesBytes a.notice (joinedAt a.joined l.client) in
-    let old = noticesBytes a.notice (joinedBelow l.client a.joined) in
-    let all = noticesBytes a.notice (joinedBelow (l.client + 1) a.joined) in
-    let next : all ≡ old ++ new = notices-next a.notice a.joined l.client in
+    let new = notices_bytes a.notice (joined_at a.joined l.client) in
+    let old = notices_bytes a.notice (joined_below l.client a.joined) in
+    let all = notices_bytes a.notice (joined_below (l.client + 1) a.joined) in
+    let next : all ≡ old ++ new = notices_next a.notice a.joined l.client in
     let turn : c2.put-notice.new.0 ≡ sets l.out (10 * l.next) new = c2.put-notice.ensures.0 in
     let so : c2.put-notice.new.0 ≡ sets a.out.now (10 * a.n) all =
     turn ∙ rw (l.invariant.3, next) (sets_behind old new a.out.now (10 * a.n) _ l.invariant.4) in
@@ -82,7 +82,7 @@ returns c =
     let c2 = c.before.before in
     let c4 = c2.before.before in
     let l = c2.loop in
-    rw (all-below c4.args.joined l.client (sym c.before.any-from.ensures ∙ c.if1.false) l.invariant.0) (l.invariant.3, l.invariant.4)
+    rw (all_below c4.args.joined l.client (sym c.before.any-from.ensures ∙ c.if1.false) l.invariant.0) (l.invariant.3, l.invariant.4)
 
 pub put-notices-spec : {M : Type 1} → statement M
 put-notices-spec =

@@ -5,14 +5,14 @@ use mathlib.Core.Path.{◌≡◌, refl, sym, ap, ◌∙◌}
 use native.Mathlib.Omega.{arith}
 use borrow.Author.Rules.{rules}
 use Rattle.common.specs.Tests.{below}
-use Rattle.soundness.specs.Absent.{absentSlot}
+use Rattle.soundness.specs.Absent.{absent_slot}
 use Rattle.soundness.specs.Scanned.{joined}
-use Rattle.soundness.proofs.AbsentLaws.{present-more, absent_more}
+use Rattle.soundness.proofs.AbsentLaws.{present_more, absent_more}
 use Rattle.soundness.proofs.absent.absent_sound.Statement.{statement}
 use Rattle.soundness.proofs.absent.absent_sound.Tie as tie
 
 abbrev invariant-loop : tie.invariant-loop
-invariant-loop hub peers ok₀ i₀ ok i = ((i ≤ peers) × (i < peers → joined hub i ≡ false)) × (ok ≡ below i (absentSlot hub))
+invariant-loop hub peers ok₀ i₀ ok i = ((i ≤ peers) × (i < peers → joined hub i ≡ false)) × (ok ≡ below i (absent_slot hub))
 
 abbrev decreases-loop : tie.decreases-loop
 decreases-loop hub peers ok₀ i₀ ok i = peers - i
@@ -22,7 +22,7 @@ next-absent-requires c κs = (omega arith, c.before.requires)
 
 loop-holds : tie.Need-loop-init invariant-loop decreases-loop
 unfolding below
-loop-holds c = ((c.next-absent.ensures.most, c.next-absent.ensures.absent), present-more _ _ _ _ c.next-absent.ensures)
+loop-holds c = ((c.next-absent.ensures.most, c.next-absent.ensures.absent), present_more _ _ _ _ c.next-absent.ensures)
 
 gap-from-requires : tie.Need-gap-from-requires invariant-loop decreases-loop
 gap-from-requires c κs = record {
@@ -51,7 +51,7 @@ loop-again c =
 returns : tie.Need-returns invariant-loop decreases-loop
 returns c =
     let e : c.before.loop.i ≡ c.before.before.before.before.args.peers = omega (arith, c.before.loop.invariant.0.0) in
-    c.before.loop.invariant.1 ∙ ap (λ (n : ℕ). below n (absentSlot c.before.before.before.before.args.hub.now)) e
+    c.before.loop.invariant.1 ∙ ap (λ (n : ℕ). below n (absent_slot c.before.before.before.before.args.hub.now)) e
 
 pub absent-sound-spec : {M : Type 1} → statement M
 absent-sound-spec =

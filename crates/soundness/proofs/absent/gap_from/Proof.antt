@@ -3,7 +3,7 @@ use Prim.Native.Nat.{◌-◌}
 use native.Mathlib.Omega.{arith}
 use borrow.Author.Rules.{rules}
 use Rattle.soundness.specs.Absent.{Vacant}
-use Rattle.soundness.proofs.AbsentLaws.{counted, gap-first, gap_more}
+use Rattle.soundness.proofs.AbsentLaws.{counted, gap_first, gap_more}
 use Rattle.soundness.proofs.absent.gap_from.Statement.{statement}
 use Rattle.soundness.proofs.absent.gap_from.Tie as tie
 
@@ -20,7 +20,7 @@ peer-requires : tie.Need-peer-requires invariant-loop decreases-loop
 peer-requires c κs = omega (arith, c.before.requires.below, c.before.requires.known)
 
 loop-holds : tie.Need-loop-init invariant-loop decreases-loop
-loop-holds c = rw c.peer.ensures (gap-first _ _ _ c.before.before.requires)
+loop-holds c = rw c.peer.ensures (gap_first _ _ _ c.before.before.requires)
 
 stands-requires : tie.Need-stands-requires invariant-loop decreases-loop
 stands-requires c κs = c.loop.invariant.known

@@ -1,7 +1,7 @@
 -- `soundness::absent::gap_reset` meets its contract: registers and entries are a slot's two parts.
 use native.Mathlib.Omega.{arith}
 use borrow.Author.Rules.{rules}
-use Rattle.soundness.proofs.AbsentLaws.{gap-tested}
+use Rattle.soundness.proofs.AbsentLaws.{gap_tested}
 use Rattle.soundness.proofs.absent.gap_reset.Statement.{statement}
 use Rattle.soundness.proofs.absent.gap_reset.Tie as tie
 
@@ -12,7 +12,7 @@ peer-reset-requires : tie.Need-peer-reset-requires
 peer-reset-requires c κs = search rules
 
 returns : tie.Need-returns
-returns c = rw (c.peer-reset.ensures, c.before.entries-reset.ensures) (gap-tested _ _ _ _ c.before.before.before.requires)
+returns c = rw (c.peer-reset.ensures, c.before.entries-reset.ensures) (gap_tested _ _ _ _ c.before.before.before.requires)
 
 pub gap-reset-spec : {M : Type 1} → statement M
 gap-reset-spec = tie.close (tie.spec entries-reset-requires peer-reset-requires returns)

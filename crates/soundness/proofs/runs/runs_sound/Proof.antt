@@ -3,7 +3,7 @@ use Prim.Native.Nat.{◌-◌, ◌≤◌}
 use mathlib.Core.Path.{◌≡◌}
 use native.Mathlib.Omega.{arith}
 use Rattle.soundness.specs.Scanned.{Scanned}
-use Rattle.soundness.proofs.ScanLaws.{scan-first, scan-last}
+use Rattle.soundness.proofs.ScanLaws.{scan_first, scan_last}
 use Rattle.soundness.proofs.runs.runs_sound.Statement.{statement}
 use Rattle.soundness.proofs.runs.runs_sound.Tie as tie
 
@@ -14,7 +14,7 @@ abbrev decreases-loop : tie.decreases-loop
 decreases-loop hub peers scan₀ i₀ scan i = peers - i
 
 loop-holds : tie.Need-loop-init invariant-loop decreases-loop
-loop-holds c = (omega arith, scan-first _ _)
+loop-holds c = (omega arith, scan_first _ _)
 
 scan-peer-requires : tie.Need-scan-peer-requires invariant-loop decreases-loop
 scan-peer-requires c κs = (omega (arith, c.before.before.before.requires), c.before.loop.invariant.1)
@@ -36,7 +36,7 @@ run-sound-requires c κs =
 returns : tie.Need-returns invariant-loop decreases-loop
 returns c =
     let e : c.before.before.before.loop.i ≡ c.before.before.before.before.before.args.peers = omega arith in
-    rw c.before.run_sound.ensures (scan-last _ _ _ (rw e at c.before.before.before.loop.invariant.1))
+    rw c.before.run_sound.ensures (scan_last _ _ _ (rw e at c.before.before.before.loop.invariant.1))
 
 pub runs-sound-spec : {M : Type 1} → statement M
 runs-sound-spec =

@@ -1,7 +1,7 @@
 -- `soundness::setup::accepted` meets its contract: numbers that are not addable are not accepted.
 use mathlib.Core.Path.{sym, ◌∙◌}
 use borrow.Author.Rules.{rules}
-use Rattle.soundness.proofs.PartsLaws.{unaddable-refused}
+use Rattle.soundness.proofs.PartsLaws.{unaddable_refused}
 use Rattle.soundness.proofs.setup.accepted.Statement.{statement}
 use Rattle.soundness.proofs.setup.accepted.Tie as tie
 
@@ -15,7 +15,7 @@ returns : tie.Need-returns
 returns c = search rules
 
 returns-2 : tie.Need-returns-2
-returns-2 c = sym (unaddable-refused _ (sym c.before.addable.ensures ∙ c.if1.false))
+returns-2 c = sym (unaddable_refused _ (sym c.before.addable.ensures ∙ c.if1.false))
 
 pub accepted-spec : {M : Type 1} → statement M
 accepted-spec = tie.close (tie.spec addable-requires tested-requires returns returns-2)

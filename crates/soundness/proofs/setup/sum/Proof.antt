@@ -2,18 +2,18 @@
 use mathlib.Core.Path.{refl}
 use native.Mathlib.Omega.{arith}
 use Rattle.device.specs.SetUp.{total}
-use Rattle.soundness.proofs.PartsLaws.{addable-facts}
+use Rattle.soundness.proofs.PartsLaws.{addable_facts}
 use Rattle.soundness.proofs.setup.sum.Statement.{statement}
 use Rattle.soundness.proofs.setup.sum.Tie as tie
 
 add-result : tie.Need-overflow-add-result
-add-result c = omega (arith, addable-facts _ c.before.requires)
+add-result c = omega (arith, addable_facts _ c.before.requires)
 
 mul-result : tie.Need-overflow-mul-result
-mul-result c = omega (arith, addable-facts _ c.before.before.requires)
+mul-result c = omega (arith, addable_facts _ c.before.before.requires)
 
 add-result-2 : tie.Need-overflow-add-result-2
-add-result-2 c = omega (arith, addable-facts _ c.before.before.requires)
+add-result-2 c = omega (arith, addable_facts _ c.before.before.requires)
 
 returns : tie.Need-returns
 unfolding total

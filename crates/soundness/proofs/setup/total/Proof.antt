@@ -1,11 +1,11 @@
 -- `soundness::setup::total` meets its contract: accepted numbers are addable.
 use borrow.Author.Rules.{rules}
-use Rattle.soundness.proofs.PartsLaws.{accepted-addable}
+use Rattle.soundness.proofs.PartsLaws.{accepted_addable}
 use Rattle.soundness.proofs.setup.total.Statement.{statement}
 use Rattle.soundness.proofs.setup.total.Tie as tie
 
 sum-requires : tie.Need-sum-requires
-sum-requires c κs = accepted-addable _ c.requires
+sum-requires c κs = accepted_addable _ c.requires
 
 returns : tie.Need-returns
 returns c = search rules

@@ -3,7 +3,7 @@ use mathlib.Core.Path.{ap}
 use native.Mathlib.Omega.{arith}
 use borrow.Author.Rules.{rules}
 use Rattle.device.specs.declared.Settings.{Settings}
-use Rattle.device.specs.Sound.{entryFixed}
+use Rattle.device.specs.Sound.{entry_fixed}
 use Rattle.soundness.proofs.AbsentLaws.{counted}
 use Rattle.soundness.proofs.WholeLaws.{whole_run, few-absent, many-absent}
 use Rattle.soundness.proofs.whole.mixed_sound.Statement.{statement}
@@ -36,7 +36,7 @@ returns : tie.Need-returns
 returns c =
     let c4 = c.before.before.before.before in
     let c6 = c4.before.before in
-    rw (c4.peer-fixed.ensures, c6.requires.1.0.fixed, c.before.entries-fixed.ensures, whole_run _ _ c6.requires.0 _ entryFixed, c.absent-sound.ensures)
+    rw (c4.peer-fixed.ensures, c6.requires.1.0.fixed, c.before.entries-fixed.ensures, whole_run _ _ c6.requires.0 _ entry_fixed, c.absent-sound.ensures)
     (few-absent _ _ c6.requires.0)
 
 runs-sound-requires : tie.Need-runs-sound-requires

@@ -3,8 +3,8 @@ use mathlib.Core.Path.{ap, ◌∙◌}
 use native.Mathlib.Omega.{arith}
 use borrow.Author.Rules.{rules}
 use Rattle.device.specs.declared.Settings.{Settings}
-use Rattle.soundness.proofs.ScanLaws.{one-run}
-use Rattle.soundness.proofs.WholeLaws.{all-joined, none-joined}
+use Rattle.soundness.proofs.ScanLaws.{one_run}
+use Rattle.soundness.proofs.WholeLaws.{all_joined, none_joined}
 use Rattle.soundness.proofs.whole.slots_sound.Statement.{statement}
 use Rattle.soundness.proofs.whole.slots_sound.Tie as tie
 
@@ -24,8 +24,8 @@ peer-fixed-requires c κs = search rules
 
 returns : tie.Need-returns
 returns c =
-    rw (c.peer-fixed.ensures, c.before.before.before.see-peers.ensures.fixed, c.before.run_sound.ensures, one-run)
-    (all-joined _ _ c.before.before.before.before.before.requires (c.before.before.before.see-peers.ensures.all c.before.before.if1.true))
+    rw (c.peer-fixed.ensures, c.before.before.before.see-peers.ensures.fixed, c.before.run_sound.ensures, one_run)
+    (all_joined _ _ c.before.before.before.before.before.requires (c.before.before.before.see-peers.ensures.all c.before.before.if1.true))
 
 run-sound-requires-2 : tie.Need-run-sound-requires-2
 run-sound-requires-2 c κs =
@@ -42,8 +42,8 @@ returns-2 : tie.Need-returns-2
 returns-2 c =
     let c4 = c.before.before.before.before in
     let c6 = c4.before.before in
-    rw (c.peer-reset.ensures, c4.see-peers.ensures.reset, c.before.run-sound2.ensures, one-run)
-    (none-joined _ _ c6.requires (c4.see-peers.ensures.none c.before.before.if2.true))
+    rw (c.peer-reset.ensures, c4.see-peers.ensures.reset, c.before.run-sound2.ensures, one_run)
+    (none_joined _ _ c6.requires (c4.see-peers.ensures.none c.before.before.if2.true))
 
 mixed-sound-requires : tie.Need-mixed-sound-requires
 mixed-sound-requires c κs = (c.before.before.before.before.requires, (c.before.before.see-peers.ensures, c.before.if1.false))

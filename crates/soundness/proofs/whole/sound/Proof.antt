@@ -2,9 +2,9 @@
 use mathlib.Core.Path.{sym, ◌∙◌}
 use borrow.Author.Rules.{rules}
 use borrow.Author.Tests.{not-true, not-false}
-use Rattle.device.proofs.SetUpLaws.{zero-unsound}
+use Rattle.device.proofs.SetUpLaws.{zero_unsound}
 use Rattle.device.specs.Sound.{sound}
-use Rattle.words.proofs.LayoutLaws.{no-hub}
+use Rattle.words.proofs.LayoutLaws.{no_hub}
 use Rattle.soundness.proofs.whole.sound.Statement.{statement}
 use Rattle.soundness.proofs.whole.sound.Tie as tie
 
@@ -12,7 +12,7 @@ fits-requires : tie.Need-fits-requires
 fits-requires c κs = search rules
 
 returns : tie.Need-returns
-returns c = rw (no-hub _ (sym c.before.fits2.ensures ∙ not-true _ c.if1.true)) (sym zero-unsound)
+returns c = rw (no_hub _ (sym c.before.fits2.ensures ∙ not-true _ c.if1.true)) (sym zero_unsound)
 
 settings-requires : tie.Need-settings-requires
 settings-requires c κs = sym c.before.fits2.ensures ∙ not-false _ c.if1.false

@@ -8,7 +8,7 @@ use Rattle.common.proofs.TestLaws.{below_suc}
 use Rattle.common.specs.Bytes.{only}
 use Rattle.common.specs.Tests.{below}
 use Rattle.words.specs.Layout.{word}
-use Rattle.words.proofs.RunLaws.{only-more}
+use Rattle.words.proofs.RunLaws.{only_more}
 use Rattle.words.proofs.columns.words_only.Statement.{statement}
 use Rattle.words.proofs.columns.words_only.Tie as tie
 
@@ -54,7 +54,7 @@ loop-less : tie.Need-loop-smaller invariant-loop decreases-loop
 loop-less c = omega arith
 
 loop-again : tie.Need-loop-preserved invariant-loop decreases-loop
-loop-again c = (omega arith, rw (add-one, only-more, c.before.before.before.loop.invariant.1) (sym (below_suc _ _)))
+loop-again c = (omega arith, rw (add-one, only_more, c.before.before.before.loop.invariant.1) (sym (below_suc _ _)))
 
 returns : tie.Need-returns invariant-loop decreases-loop
 returns c =

@@ -6,15 +6,15 @@ use native.Mathlib.Omega.{arith}
 use lib.Dec.{eqb}
 use Rattle.common.proofs.TestLaws.{below_suc}
 use Rattle.common.specs.Tests.{below}
-use Rattle.device.specs.Sound.{entryReset}
-use Rattle.words.specs.Parts.{entryFrom}
-use Rattle.words.proofs.RunLaws.{reset-more}
+use Rattle.device.specs.Sound.{entry_reset}
+use Rattle.words.specs.Parts.{entry_from}
+use Rattle.words.proofs.RunLaws.{reset_more}
 use Rattle.words.proofs.columns.words_reset.Statement.{statement}
 use Rattle.words.proofs.columns.words_reset.Tie as tie
 
 abbrev invariant-loop : tie.invariant-loop
 invariant-loop hub start size column faults₀ k₀ faults k =
-    (k ≤ size) × (eqb faults 0 ≡ below k (λ j. entryReset (entryFrom hub (start + j) column)))
+    (k ≤ size) × (eqb faults 0 ≡ below k (λ j. entry_reset (entry_from hub (start + j) column)))
 
 abbrev decreases-loop : tie.decreases-loop
 decreases-loop hub start size column faults₀ k₀ faults k = size - k
@@ -75,8 +75,8 @@ loop-again : tie.Need-loop-preserved invariant-loop decreases-loop
 loop-again c =
     let c5 = c.before.before.before.before.before in
     let c6 = c5.before in
-    let e = entryFrom c6.args.hub.now (c6.args.start + c5.loop.k) c6.args.column in
-    (omega arith, rw add-one (reset-more c5.loop.faults e ∙ rw c5.loop.invariant.1 (sym (below_suc _ _))))
+    let e = entry_from c6.args.hub.now (c6.args.start + c5.loop.k) c6.args.column in
+    (omega arith, rw add-one (reset_more c5.loop.faults e ∙ rw c5.loop.invariant.1 (sym (below_suc _ _))))
 
 returns : tie.Need-returns invariant-loop decreases-loop
 returns c =

@@ -7,7 +7,7 @@ use borrow.Author.Rules.{rules}
 use borrow.Author.Tests.{lt-ltb, ltb-true}
 use lib.Dec.{ltb}
 use Rattle.common.proofs.TestLaws.{and_left, second_lt}
-use Rattle.words.proofs.LayoutLaws.{no-entry}
+use Rattle.words.proofs.LayoutLaws.{no_entry}
 use Rattle.words.proofs.entries.entry_at.Statement.{statement}
 use Rattle.words.proofs.entries.entry_at.Tie as tie
 
@@ -30,7 +30,7 @@ returns c = search rules
 
 returns-2 : tie.Need-returns-2
 returns-2 c =
-    no-entry _ _ _ (λ l k. neither _ _ _ _ c.if1.false (rw (← c.before.before.requires.0) at l) (rw (← c.before.before.requires.1) at k))
+    no_entry _ _ _ (λ l k. neither _ _ _ _ c.if1.false (rw (← c.before.before.requires.0) at l) (rw (← c.before.before.requires.1) at k))
 
 pub entry-at-spec : {M : Type 1} → statement M
 entry-at-spec = tie.close (tie.spec entry-in-requires returns returns-2)

@@ -1,5 +1,5 @@
 -- `words::header::settings_from` meets its contract: each field is the word read for it.
-use Rattle.words.specs.Layout.{settingsOf}
+use Rattle.words.specs.Layout.{settings_of}
 use borrow.Author.Rules.{rules}
 use Rattle.words.proofs.header.settings_from.Statement.{statement}
 use Rattle.words.proofs.header.settings_from.Tie as tie
@@ -38,7 +38,7 @@ wide-requires-8 : tie.Need-wide-requires-8
 wide-requires-8 c κs = search rules
 
 returns : tie.Need-returns
-unfolding settingsOf
+unfolding settings_of
 returns c = cc
 
 pub settings-from-spec : {M : Type 1} → statement M

@@ -4,7 +4,7 @@ use mathlib.Core.Path.{◌≡◌, refl}
 use native.Mathlib.Omega.{arith}
 use lib.ListN.{length, length-set}
 use Rattle.words.specs.Parts.{Filled}
-use Rattle.words.proofs.PartLaws.{filled_none, filled-one}
+use Rattle.words.proofs.PartLaws.{filled_none, filled_one}
 use Rattle.words.proofs.parts.fill.Statement.{statement}
 use Rattle.words.proofs.parts.fill.Tie as tie
 
@@ -33,7 +33,7 @@ loop-less : tie.Need-loop-smaller invariant-loop decreases-loop
 loop-less c = omega arith
 
 loop-again : tie.Need-loop-preserved invariant-loop decreases-loop
-loop-again c = (omega arith, simp length-set c.before.loop.invariant.1, filled-one _ _ _ _ _ (omega arith) c.before.loop.invariant.2)
+loop-again c = (omega arith, simp length-set c.before.loop.invariant.1, filled_one _ _ _ _ _ (omega arith) c.before.loop.invariant.2)
 
 same_length : tie.Need-same-length invariant-loop decreases-loop
 same_length c = c.before.loop.invariant.1

@@ -4,17 +4,17 @@ use native.Mathlib.Omega.{arith}
 use borrow.Author.Rules.{rules}
 use lib.ListN.{length}
 use borrow.Author.Tests.{le-leb, lt-leb, ne_eqb}
-use Rattle.common.proofs.TestLaws.{every-false}
+use Rattle.common.proofs.TestLaws.{every_false}
 use Rattle.common.specs.Tests.{every}
-use Rattle.words.specs.Layout.{hubWords, word, fits}
+use Rattle.words.specs.Layout.{hub_words, word, fits}
 use Rattle.words.proofs.sizes.fits.Statement.{statement}
 use Rattle.words.proofs.sizes.fits.Tie as tie
 
 returns : tie.Need-returns
-unfolding fits hubWords
+unfolding fits hub_words
 returns c =
     let ws = c.before.before.args.hub.now in
-    sym (every-false _ 2 (ne_eqb (length ws) (hubWords (word ws 0) (word ws 1)) (λ e. omega arith)))
+    sym (every_false _ 2 (ne_eqb (length ws) (hub_words (word ws 0) (word ws 1)) (λ e. omega arith)))
 
 count-requires : tie.Need-count-requires
 count-requires c κs = search rules
@@ -27,14 +27,14 @@ max-peers-requires c κs = search rules
 
 returns-2 : tie.Need-returns-2
 unfolding fits
-returns-2 c = sym (every-false _ 0 (lt-leb _ _ (rw (c.before.max-peers.ensures, c.before.before.before.count.ensures) at c.if2.true)))
+returns-2 c = sym (every_false _ 0 (lt-leb _ _ (rw (c.before.max-peers.ensures, c.before.before.before.count.ensures) at c.if2.true)))
 
 max-vectors-requires : tie.Need-max-vectors-requires
 max-vectors-requires c κs = search rules
 
 returns-3 : tie.Need-returns-3
 unfolding fits
-returns-3 c = sym (every-false _ 1 (lt-leb _ _ (rw (c.before.max-vectors.ensures, c.before.before.before.before.count2.ensures) at c.if3.true)))
+returns-3 c = sym (every_false _ 1 (lt-leb _ _ (rw (c.before.max-vectors.ensures, c.before.before.before.before.count2.ensures) at c.if3.true)))
 
 hub-words-requires : tie.Need-hub-words-requires
 hub-words-requires c κs = search rules

@@ -5,21 +5,21 @@ use mathlib.Core.Path.{◌≡◌, refl, sym, ap, ◌∙◌}
 use native.Mathlib.Omega.{arith}
 use borrow.Author.Rules.{rules}
 use lib.ListN.{length}
-use Rattle.device.specs.World.{Hub, slot_at, withSlot}
-use Rattle.words.specs.Layout.{entryStart, hubOf, Known}
-use Rattle.words.proofs.LayoutLaws.{known-inside, peers-at, vectors-at}
-use Rattle.words.proofs.SlotLaws.{cleared, slot_kept, cleared_more, cleared-all}
+use Rattle.device.specs.World.{Hub, slot_at, with_slot}
+use Rattle.words.specs.Layout.{entry_start, hub_of, Known}
+use Rattle.words.proofs.LayoutLaws.{known_inside, peers_at_lem, vectors_at}
+use Rattle.words.proofs.SlotLaws.{cleared, slot_kept, cleared_more, cleared_all}
 use Rattle.words.proofs.slots.put_reset.Statement.{statement}
 use Rattle.words.proofs.slots.put_reset.Tie as tie
 
 record Inv (hub₀ : List ℕ) (i m start column : ℕ) (hub : List ℕ) (v : ℕ) : Type 0 where
   known : Known hub₀ i
-  vectors : m ≡ (hubOf hub₀).settings.vectors
-  first : start ≡ entryStart (hubOf hub₀).settings.peers (hubOf hub₀).settings.vectors 0 i 0
-  apart : column ≡ (hubOf hub₀).settings.peers * (hubOf hub₀).settings.vectors
+  vectors : m ≡ (hub_of hub₀).settings.vectors
+  first : start ≡ entry_start (hub_of hub₀).settings.peers (hub_of hub₀).settings.vectors 0 i 0
+  apart : column ≡ (hub_of hub₀).settings.peers * (hub_of hub₀).settings.vectors
   bound : v ≤ m
   kept : length hub ≡ length hub₀
-  reset : hubOf hub ≡ withSlot (hubOf hub₀) i (cleared (slot_at (hubOf hub₀) i) v)
+  reset : hub_of hub ≡ with_slot (hub_of hub₀) i (cleared (slot_at (hub_of hub₀) i) v)
 
 abbrev invariant-loop : tie.invariant-loop
 invariant-loop hub₀ i connected n m start column v₀ hub v = Inv hub₀ i m start column hub v
@@ -36,19 +36,19 @@ put-peer-requires c κs = c.before.before.before.requires
 count-requires : tie.Need-count-requires invariant-loop decreases-loop
 count-requires c κs =
     let c7 = c.before.before.before.before.before.before.before in
-    omega (arith, known-inside c.before.before.before.put-peer.new.0 c7.args.i (rw c.before.before.before.put-peer.ensures c7.requires))
+    omega (arith, known_inside c.before.before.before.put-peer.new.0 c7.args.i (rw c.before.before.before.put-peer.ensures c7.requires))
 
 count-requires-2 : tie.Need-count-requires-2 invariant-loop decreases-loop
 count-requires-2 c κs =
     let c5 = c.before.before.before.before.before in
     let c9 = c5.before.before.before.before in
-    omega (arith, known-inside c5.put-peer.new.0 c9.args.i (rw c5.put-peer.ensures c9.requires))
+    omega (arith, known_inside c5.put-peer.new.0 c9.args.i (rw c5.put-peer.ensures c9.requires))
 
 entry-start-requires : tie.Need-entry-start-requires invariant-loop decreases-loop
 entry-start-requires c κs =
     let c6 = c.before.before.before.before.before.before in
     let c10 = c6.before.before.before.before in
-    let i = known-inside c6.put-peer.new.0 c10.args.i (rw c6.put-peer.ensures c10.requires) in
+    let i = known_inside c6.put-peer.new.0 c10.args.i (rw c6.put-peer.ensures c10.requires) in
     rw (c.before.before.count.ensures, c.count2.ensures) ((i.sized.few, i.sized.less), (omega (arith, i), omega arith))
 
 mul-column : tie.Need-overflow-mul-column invariant-loop decreases-loop
@@ -56,19 +56,19 @@ mul-column c =
     let c7 = c.before.before.before.before.before.before.before in
     let c11 = c7.before.before.before.before in
     rw (c.before.before.before.count.ensures, c.before.count2.ensures)
-    (omega (arith, known-inside c7.put-peer.new.0 c11.args.i (rw c7.put-peer.ensures c11.requires)))
+    (omega (arith, known_inside c7.put-peer.new.0 c11.args.i (rw c7.put-peer.ensures c11.requires)))
 
 loop-holds : tie.Need-loop-init invariant-loop decreases-loop
 loop-holds c =
     let c7 = c.before.before.before.before.before.before.before in
     let c11 = c7.before.before.before.before in
     let known : Known c7.put-peer.new.0 c11.args.i = rw c7.put-peer.ensures c11.requires in
-    let z = (known-inside _ _ known).sized in
+    let z = (known_inside _ _ known).sized in
     record {
       known = known;
-      vectors = c.before.count2.ensures ∙ sym (vectors-at z);
-      first = rw (c.entry-start.ensures, c.before.before.before.count.ensures, c.before.count2.ensures, peers-at z, vectors-at z);
-      apart = rw (c.before.before.before.count.ensures, c.before.count2.ensures, peers-at z, vectors-at z);
+      vectors = c.before.count2.ensures ∙ sym (vectors_at z);
+      first = rw (c.entry-start.ensures, c.before.before.before.count.ensures, c.before.count2.ensures, peers_at_lem z, vectors_at z);
+      apart = rw (c.before.before.before.count.ensures, c.before.count2.ensures, peers_at_lem z, vectors_at z);
       bound = omega arith;
       kept = refl;
       reset = slot_kept _ _;
@@ -120,7 +120,7 @@ returns c =
     let c13 = c10.before.before.before in
     let e : c.before.loop.v ≡ c.before.before.before.count2.result = omega arith in
     let last = e ∙ c.before.loop.invariant.vectors ∙ ap (λ (h : Hub). h.settings.vectors) c9.put-peer.ensures in
-    cleared-all _ _ _ _ c13.requires _ (rw c10.reset.ensures at c9.put-peer.ensures) (rw last at c.before.loop.invariant.reset)
+    cleared_all _ _ _ _ c13.requires _ (rw c10.reset.ensures at c9.put-peer.ensures) (rw last at c.before.loop.invariant.reset)
 
 pub put-reset-spec : {M : Type 1} → statement M
 put-reset-spec =

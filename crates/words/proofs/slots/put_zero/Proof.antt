@@ -4,7 +4,7 @@ use mathlib.Core.Path.{◌≡◌, refl, sym, ap, ◌∙◌}
 use mathlib.Core.List.{◌++◌}
 use native.Mathlib.Omega.{arith}
 use lib.ListN.{length, length-set, drop, replicate}
-use Rattle.common.proofs.ListLaws.{filled_more, filled-all}
+use Rattle.common.proofs.ListLaws.{filled_more, filled_all}
 use Rattle.words.proofs.slots.put_zero.Statement.{statement}
 use Rattle.words.proofs.slots.put_zero.Tie as tie
 
@@ -44,7 +44,7 @@ returns : tie.Need-returns invariant-loop decreases-loop
 returns c =
     let e : c.before.loop.k ≡ length c.before.before.args.hub.now = omega arith in
     c.before.loop.invariant.2
-    ∙ filled-all c.before.loop.k 0 c.before.before.args.hub.now (sym e)
+    ∙ filled_all c.before.loop.k 0 c.before.before.args.hub.now (sym e)
     ∙ ap (λ (n : ℕ). replicate n 0) e
 
 pub put-zero-spec : {M : Type 1} → statement M
