@@ -1,4 +1,6 @@
 // What every layer uses. The definitions are in specs/, their laws in proofs/.
+#![tactic(auto)]
+
 ghost use Rattle.std.specs.Prelude.{◌≡◌, cond};
 
 // One of two numbers.

@@ -1,5 +1,7 @@
 // The data that the device keeps and hands over. What the device does with it is defined in specs/, in the order of the
 // rules; the theorems about that are in proofs/.
+#![tactic(auto)]
+
 ghost use Rattle.std.specs.Prelude.{◌≡◌};
 ghost use Rattle.device.specs.Sizes.{max_peers, max_vectors};
 ghost use Rattle.device.specs.Reset.{reset_peer, reset_entry};
