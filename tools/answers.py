@@ -16,6 +16,7 @@ import sys
 import tempfile
 
 WORD = r"[A-Za-z0-9_'ℕℤ₀-]"
+CLAUSES = {}
 PLAIN = {"search rules", "omega arith", "refl"}
 
 
@@ -30,6 +31,94 @@ def names(crate):
         known = json.load(f)
     shutil.rmtree(to)
     return known
+
+
+def clauses():
+    """Of each function of the repository, by its path, the names of its requires and of its ensures, where it has several."""
+    found = {}
+    for crate in sorted(os.listdir("crates")):
+        for folder, _, files in os.walk(f"crates/{crate}/src"):
+            for name in files:
+                if not name.endswith(".rt"):
+                    continue
+                inner = os.path.relpath(os.path.join(folder, name), f"crates/{crate}/src")[:-3].split("/")
+                module = [crate] + [p for p in inner if p not in ("lib", "main", "mod")]
+                with open(os.path.join(folder, name), encoding="utf-8") as f:
+                    text = f.read()
+                kind, at = [], None
+                for line in text.split("\n"):
+                    m = re.match(r"impl(?:<.*>)? (\w+)", line)
+                    if m:
+                        kind = [m.group(1)]
+                    elif line == "}":
+                        kind = []
+                    m = re.match(r"\s*(?:pub )?(?:extern \"C\" )?fn (\w+)", line)
+                    if m:
+                        at = "::".join(module + kind + [m.group(1)])
+                        found[at] = {"requires": [], "ensures": []}
+                    m = re.match(r"\s*(requires|ensures)(?: (\w+))? \{", line)
+                    if m and at:
+                        found[at][m.group(1)].append(m.group(2))
+    return found
+
+
+def named(path, labels):
+    """The field that a path of numbers into nested pairs reaches: .1.0 of three clauses is the second."""
+    if len(labels) < 2:
+        return path
+    numbers, k = re.findall(r"\.(\d+)", path), 0
+    while k < len(numbers) and numbers[k] == "1" and len(labels) - k > 2:
+        k += 1
+    if k == len(numbers):
+        return path
+    if len(labels) - k == 2:
+        if numbers[k] not in "01":
+            return path
+        return "." + labels[k + int(numbers[k])] + "".join("." + n for n in numbers[k + 1 :])
+    if numbers[k] != "0":
+        return path
+    return "." + labels[k] + "".join("." + n for n in numbers[k + 1 :])
+
+
+def parts_of(group):
+    """A tuple's parts, or None."""
+    depth, now, out = 0, "", []
+    for ch in group[1:-1]:
+        depth += ch in "([{"
+        depth -= ch in ")]}"
+        if ch == "," and depth == 0:
+            out.append(now.strip())
+            now = ""
+        else:
+            now += ch
+    out = [o for o in out + [now.strip()] if o]
+    return out if len(out) > 1 else None
+
+
+def as_record(body, labels):
+    """The tuple that a body ends with as a record with these fields."""
+    body = body.rstrip()
+    if not body.endswith(")"):
+        return body
+    depth, i = 0, len(body) - 1
+    while i >= 0:
+        depth += body[i] in ")]}"
+        depth -= body[i] in "([{"
+        if depth == 0:
+            break
+        i -= 1
+    before = re.search(r"([A-Za-z_.]+)\s*$", body[:i])
+    if before and before.group(1) not in ("in", "="):
+        return body
+    parts = parts_of(body[i:])
+    while parts and len(parts) < len(labels) and parts[-1].startswith("(") and parts[-1].endswith(")"):
+        more = parts_of(parts[-1])
+        if not more:
+            break
+        parts = parts[:-1] + more
+    if not parts or len(parts) != len(labels):
+        return body
+    return body[:i] + "record { " + "; ".join(f"{n} = {p}" for n, p in zip(labels, parts)) + " }"
 
 
 def blocks(text):
@@ -51,6 +140,23 @@ def goals(block):
     text = " ".join(block)
     m = re.search(r"tie\.spec\b(.*?)\)?\s*$", text)
     return [w.strip("()") for w in m.group(1).split() if w.strip("()")] if m else []
+
+
+def labelled(body, own, callees, params):
+    """Clauses and changed parameters by their names."""
+    body = re.sub(r"(?<!" + WORD + r")(?<!\.)c\.requires((?:\.\d+)+)", lambda m: "c.requires" + named(m.group(1), own["requires"]), body)
+
+    def ensured(m):
+        callee = callees.get(m.group(1))
+        return f"c.{m.group(1)}.ensures" + (named(m.group(2), CLAUSES[callee]["ensures"]) if callee in CLAUSES else m.group(2))
+
+    def changed(m):
+        names = params.get(callees.get(m.group(1)), [])
+        k = int(m.group(2))
+        return m.group(0)[: -len(m.group(2))] + names[k] if k < len(names) else m.group(0)
+
+    body = re.sub(r"(?<!" + WORD + r")(?<!\.)c\.(" + WORD + r"+)\.ensures((?:\.\d+)+)", ensured, body)
+    return re.sub(r"(?<!" + WORD + r")(?<!\.)c\.(" + WORD + r"+)\.(?:new|auto)\.(\d+)", changed, body)
 
 
 def flat(body, steps):
@@ -119,6 +225,8 @@ def turn(crate, path, known, said):
         old, new = place[2]
         if old:
             steps[plain(old)] = new
+    callees = {place[2][1]: place[3] for place in k["places"] if place[3]}
+    mine = CLAUSES.get("::".join([crate] + f.split("/")), {"requires": [], "ensures": []})
     parts = blocks(text)
     head = parts[0]
     while len(parts) > 1 and parts[1][0].startswith("use "):
@@ -170,7 +278,13 @@ def turn(crate, path, known, said):
         body = "\n".join(rest)
         body = re.sub(r"^" + re.escape(name) + r"(?: c)?(?: κs)?(?: qs)?", "", body, count=1)
         body = re.sub(r"^ *= ?", "", body)
-        body = flat(body, steps)
+        body = labelled(flat(body, steps), mine, callees, k["params"])
+        old_name = {n: o for o, n in k["needs"]}.get(new, new)
+        asked = k["asked"].get(old_name, k["asked"].get(new, []))
+        if new.startswith("returns") and len(mine["ensures"]) > 1:
+            asked = mine["ensures"]
+        if len(asked) > 1:
+            body = as_record(body, asked)
         if body.strip() in PLAIN and not opened:
             continue
         sep = "\n    " if body.startswith("\n") is False and "\n" in body and not body.strip().startswith(("record", "rw", "simp")) else " "
@@ -202,6 +316,7 @@ def turn(crate, path, known, said):
 
 def main(argv):
     crate, only = argv[0], argv[1:]
+    CLAUSES.update(clauses())
     known = names(crate)
     said = []
     for folder, _, found in sorted(os.walk(f"crates/{crate}/proofs")):

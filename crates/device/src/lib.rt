@@ -25,15 +25,15 @@ pub fn max_vectors() -> usize
 
 // A peer's id and a vector number: two types, so that one cannot be passed for the other.
 #[repr(C)]
-#[derive(Drop)]
+#[derive(Clone, Copy)]
 pub struct PeerId(pub u16);
 
 #[repr(C)]
-#[derive(Drop)]
+#[derive(Clone, Copy)]
 pub struct Vector(pub u16);
 
 // The set-up numbers, the same for all peers.
-#[derive(Drop)]
+#[derive(Clone, Copy)]
 pub struct Settings {
     // Maximum Peers
     pub peers: u64,
@@ -52,7 +52,7 @@ pub struct Settings {
 }
 
 // What can change of one peer's configuration space and register region, a word for each register.
-#[derive(Drop)]
+#[derive(Clone, Copy)]
 pub struct Peer {
     // 1: the peer is connected
     pub connected: u32,
@@ -99,7 +99,7 @@ impl Peer {
 }
 
 // One entry of a peer's MSI-X table: Message Address, Message Upper Address, Message Data, Vector Control.
-#[derive(Drop)]
+#[derive(Clone, Copy)]
 pub struct Entry {
     pub low: u32,
     pub high: u32,
@@ -128,7 +128,7 @@ impl Entry {
 }
 
 // The switches of a peer that decide over one ring of one vector.
-#[derive(Drop)]
+#[derive(Clone, Copy)]
 pub struct Gate {
     // Command bit 2, Bus Master
     pub master: bool,
@@ -142,7 +142,7 @@ pub struct Gate {
 }
 
 // What a ring finds at the id and vector that it names.
-#[derive(Drop)]
+#[derive(Clone, Copy)]
 pub enum Target {
     Live(Gate),
     Nobody,
@@ -150,7 +150,7 @@ pub enum Target {
 
 // An interrupt handed to the host: 16 bytes, with no padding.
 #[repr(C)]
-#[derive(Drop)]
+#[derive(Clone, Copy)]
 pub struct Delivery {
     pub address: u64,
     pub payload: u32,
@@ -159,7 +159,7 @@ pub struct Delivery {
 }
 
 // The section that a range of the shared region lies in.
-#[derive(Drop)]
+#[derive(Clone, Copy)]
 pub enum SectionKind {
     Nothing,
     StateTable,
@@ -168,7 +168,7 @@ pub enum SectionKind {
 }
 
 // The answer to the section question: the section, and whether the asking peer may store to it.
-#[derive(Drop)]
+#[derive(Clone, Copy)]
 pub struct SectionAnswer {
     pub kind: SectionKind,
     pub store: bool,
@@ -176,14 +176,14 @@ pub struct SectionAnswer {
 
 // A call's answer: 0 or the refusal's number, and the value read.
 #[repr(C)]
-#[derive(Drop)]
+#[derive(Clone, Copy)]
 pub struct Reply {
     pub number: u32,
     pub value: u32,
 }
 
 // The same for the section question.
-#[derive(Drop)]
+#[derive(Clone, Copy)]
 pub struct SectionReply {
     pub reply: Reply,
     pub section: SectionAnswer,

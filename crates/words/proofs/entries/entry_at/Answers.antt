@@ -8,8 +8,7 @@ use borrow.Author.Tests.{lt-ltb, ltb-true}
 use lib.Dec.{ltb}
 use Rattle.common.proofs.TestLaws.{and_left, second_lt}
 use Rattle.words.proofs.LayoutLaws.{no_entry}
-use Rattle.words.proofs.entries.entry_at.Statement.{statement}
-use Rattle.words.proofs.entries.entry_at.Tie as tie
+use Rattle.words.proofs.entries.entry_at.Goals as goal
 
 both : (i n v m : ℕ) → (ltb i n && ltb v m) ≡ true → (i < n) × (v < m)
 both i n v m t = (ltb-true i n (and_left (ltb i n) (ltb v m) t), second_lt (ltb i n) v m t)
@@ -20,17 +19,10 @@ neither i n v m t l k =
     let y : ◌≡◌ {A = ℕ} 0 1 = cc in
     omega arith
 
-entry-in-requires : tie.Need-entry-in-requires
-entry-in-requires c κs =
-    let t = both _ _ _ _ c.if1.true in
-    (c.before.before.requires, (rw (← c.before.before.requires.0) t.0, rw (← c.before.before.requires.1) t.1))
+pub entry_in-requires : goal.entry_in-requires
+entry_in-requires c =
+    let t = both _ _ _ _ c.if-there.true in
+    record { numbers = c.requires; known = rw (← c.requires.0) t.0; vector = rw (← c.requires.1) t.1 }
 
-returns : tie.Need-returns
-returns c = search rules
-
-returns-2 : tie.Need-returns-2
-returns-2 c =
-    no_entry _ _ _ (λ l k. neither _ _ _ _ c.if1.false (rw (← c.before.before.requires.0) at l) (rw (← c.before.before.requires.1) at k))
-
-pub entry-at-spec : {M : Type 1} → statement M
-entry-at-spec = tie.close (tie.spec entry-in-requires returns returns-2)
+pub returns : goal.returns
+returns c = no_entry _ _ _ (λ l k. neither _ _ _ _ c.if-there.false (rw (← c.requires.0) at l) (rw (← c.requires.1) at k))

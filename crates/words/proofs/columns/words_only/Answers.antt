@@ -1,0 +1,23 @@
+use Prim.Native.Nat.{◌+◌, ◌-◌, ◌*◌, ◌≤◌}
+use mathlib.Core.Bool.{◌&&◌}
+use mathlib.Core.Path.{◌≡◌, refl, sym}
+use native.Mathlib.Numerals.{add-one}
+use native.Mathlib.Omega.{arith}
+use Rattle.common.proofs.TestLaws.{below_suc}
+use Rattle.common.specs.Bytes.{only}
+use Rattle.common.specs.Tests.{below}
+use Rattle.words.specs.Layout.{word}
+use Rattle.words.proofs.RunLaws.{only_more}
+use Rattle.words.proofs.columns.words_only.Goals as goal
+
+pub loop-k-init : goal.loop-k-init
+unfolding below
+loop-k-init c = (omega arith, refl)
+
+pub loop-k-preserved : goal.loop-k-preserved
+loop-k-preserved c = (omega arith, rw (add-one, only_more, c.loop-k.invariant.1) (sym (below_suc _ _)))
+
+pub returns : goal.returns
+returns c =
+    let e : c.loop-k.k ≡ c.args.size = omega arith in
+    rw e at c.loop-k.invariant.1

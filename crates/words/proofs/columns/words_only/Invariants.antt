@@ -1,0 +1,18 @@
+-- `words::columns::words_only` meets its contract. The loop's invariant: what is collected keeps to the masks where the words passed do.
+use Prim.Native.Nat.{◌+◌, ◌-◌, ◌*◌, ◌≤◌}
+use mathlib.Core.Bool.{◌&&◌}
+use mathlib.Core.Path.{◌≡◌, refl, sym}
+use native.Mathlib.Numerals.{add-one}
+use native.Mathlib.Omega.{arith}
+use Rattle.common.proofs.TestLaws.{below_suc}
+use Rattle.common.specs.Bytes.{only}
+use Rattle.common.specs.Tests.{below}
+use Rattle.words.specs.Layout.{word}
+use Rattle.words.proofs.RunLaws.{only_more}
+use Rattle.words.proofs.columns.words_only.Given as goal
+
+abbrev pub invariant-loop-k : goal.invariant-loop-k
+invariant-loop-k l = (l.k ≤ l.size) × ((only l.low l.lows && only l.control l.controls) ≡ below l.k (λ j. only l.low (word l.hub (l.start + j)) && only l.control (word l.hub (l.start + j + 3 * l.column))))
+
+abbrev pub decreases-loop-k : goal.decreases-loop-k
+decreases-loop-k l = l.size - l.k

@@ -1,0 +1,18 @@
+-- `words::columns::words_reset` meets its contract. The loop's invariant: no fault is collected where the words passed hold reset values.
+use Prim.Native.Nat.{◌+◌, ◌-◌, ◌≤◌}
+use mathlib.Core.Path.{◌≡◌, refl, sym, ◌∙◌}
+use native.Mathlib.Numerals.{add-one}
+use native.Mathlib.Omega.{arith}
+use lib.Dec.{eqb}
+use Rattle.common.proofs.TestLaws.{below_suc}
+use Rattle.common.specs.Tests.{below}
+use Rattle.device.specs.Sound.{entry_reset}
+use Rattle.words.specs.Parts.{entry_from}
+use Rattle.words.proofs.RunLaws.{reset_more}
+use Rattle.words.proofs.columns.words_reset.Given as goal
+
+abbrev pub invariant-loop-k : goal.invariant-loop-k
+invariant-loop-k l = (l.k ≤ l.size) × (eqb l.faults 0 ≡ below l.k (λ j. entry_reset (entry_from l.hub (l.start + j) l.column)))
+
+abbrev pub decreases-loop-k : goal.decreases-loop-k
+decreases-loop-k l = l.size - l.k

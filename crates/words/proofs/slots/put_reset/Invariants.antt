@@ -1,0 +1,27 @@
+-- `words::slots::put_reset` meets its contract. The loop's invariant: of the slot, the entries passed are at reset.
+use Prim.Native.Nat.{ℕ, ◌*◌, ◌-◌, ◌≤◌}
+use mathlib.Core.List.{List}
+use mathlib.Core.Path.{◌≡◌, refl, sym, ap, ◌∙◌}
+use native.Mathlib.Omega.{arith}
+use borrow.Author.Rules.{rules}
+use lib.ListN.{length}
+use Rattle.device.specs.World.{Hub, slot_at, with_slot}
+use Rattle.words.specs.Layout.{entry_start, hub_of, Known}
+use Rattle.words.proofs.LayoutLaws.{known_inside, peers_at_lem, vectors_at}
+use Rattle.words.proofs.SlotLaws.{cleared, slot_kept, cleared_more, cleared_all}
+use Rattle.words.proofs.slots.put_reset.Given as goal
+
+pub record Inv (hub₀ : List ℕ) (i m start column : ℕ) (hub : List ℕ) (v : ℕ) : Type 0 where
+  pub known : Known hub₀ i
+  pub vectors : m ≡ (hub_of hub₀).settings.vectors
+  pub first : start ≡ entry_start (hub_of hub₀).settings.peers (hub_of hub₀).settings.vectors 0 i 0
+  pub apart : column ≡ (hub_of hub₀).settings.peers * (hub_of hub₀).settings.vectors
+  pub bound : v ≤ m
+  pub kept : length hub ≡ length hub₀
+  pub reset : hub_of hub ≡ with_slot (hub_of hub₀) i (cleared (slot_at (hub_of hub₀) i) v)
+
+abbrev pub invariant-loop-v : goal.invariant-loop-v
+invariant-loop-v l = Inv l.initial.hub l.i l.m l.start l.column l.hub l.v
+
+abbrev pub decreases-loop-v : goal.decreases-loop-v
+decreases-loop-v l = l.m - l.v
