@@ -146,6 +146,15 @@ def labelled(body, own, callees, params):
     """Clauses and changed parameters by their names."""
     body = re.sub(r"(?<!" + WORD + r")(?<!\.)c\.requires((?:\.\d+)+)", lambda m: "c.requires" + named(m.group(1), own["requires"]), body)
 
+    if len(own["requires"]) == 1 and own["requires"][0]:
+        body = re.sub(r"(?<!" + WORD + r")(?<!\.)c\.requires(?!" + WORD + ")", "c.requires." + own["requires"][0], body)
+
+    def lone(m):
+        labels = CLAUSES.get(callees.get(m.group(1)), {"ensures": []})["ensures"]
+        return m.group(0) + ("." + labels[0] if len(labels) == 1 and labels[0] else "")
+
+    body = re.sub(r"(?<!" + WORD + r")(?<!\.)c\.(" + WORD + r"+)\.ensures(?!" + WORD + ")", lone, body)
+
     def ensured(m):
         callee = callees.get(m.group(1))
         return f"c.{m.group(1)}.ensures" + (named(m.group(2), CLAUSES[callee]["ensures"]) if callee in CLAUSES else m.group(2))
@@ -175,7 +184,10 @@ def flat(body, steps):
     body = re.sub(r"(?<!" + WORD + r")(?<!\.)(?:" + heads + r")((?:\.before)*)(?!" + WORD + r")", "c", body)
 
     def step(m):
-        return "c." + steps.get(plain(m.group(1)), m.group(1))
+        old = plain(m.group(1))
+        if old not in steps and re.sub(r"2$", "", old) in steps:
+            old = re.sub(r"2$", "", old)
+        return "c." + steps.get(old, m.group(1))
 
     return re.sub(r"(?<!" + WORD + r")(?<!\.)c\.(" + WORD + r"+)", step, body)
 
@@ -281,10 +293,13 @@ def turn(crate, path, known, said):
         body = labelled(flat(body, steps), mine, callees, k["params"])
         old_name = {n: o for o, n in k["needs"]}.get(new, new)
         asked = k["asked"].get(old_name, k["asked"].get(new, []))
-        if new.startswith("returns") and len(mine["ensures"]) > 1:
+        if new.startswith("returns") and mine["ensures"] and mine["ensures"][0]:
             asked = mine["ensures"]
         if len(asked) > 1:
             body = as_record(body, asked)
+            if len(asked) == 2 and re.match(r"\w", body.strip()) and " in" not in body and "record" not in body and not re.match(r"(rw|simp|omega|search|cc|grind|refl)\b", body.strip()):
+                body = f"let r = {body.strip()} in record {{ {asked[0]} = r.0; {asked[1]} = r.1 }}"
+        body = re.sub(r"c\.enum_told(?:-\d+)?\.given\.1", "c.in_default.is", body)
         if body.strip() in PLAIN and not opened:
             continue
         sep = "\n    " if body.startswith("\n") is False and "\n" in body and not body.strip().startswith(("record", "rw", "simp")) else " "
