@@ -1,11 +1,8 @@
-use Prim.Native.Nat.{ℕ, ◌-◌, ◌≤◌, ◌<◌}
-use mathlib.Core.Bool.{false}
-use mathlib.Core.Path.{◌≡◌, refl, sym, ap, ◌∙◌}
+use Prim.Native.Nat.{ℕ}
+use mathlib.Core.Path.{◌≡◌, ap, ◌∙◌}
 use native.Mathlib.Omega.{arith}
-use borrow.Author.Rules.{rules}
 use Rattle.common.specs.Tests.{below}
 use Rattle.soundness.specs.Absent.{absent_slot}
-use Rattle.soundness.specs.Scanned.{joined}
 use Rattle.soundness.proofs.AbsentLaws.{present_more, absent_more}
 use Rattle.soundness.proofs.absent.absent_sound.Goals as goal
 
@@ -30,12 +27,11 @@ pub loop-i-smaller : goal.loop-i-smaller
 loop-i-smaller c = omega (arith, c.gap_from-gap.ensures.some, c.gap_from-gap.ensures.most, c.next_absent-i-in-loop-i.ensures.order)
 
 pub loop-i-preserved : goal.loop-i-preserved
-loop-i-preserved c =
-    (
-      (c.next_absent-i-in-loop-i.ensures.most, c.next_absent-i-in-loop-i.ensures.absent),
-      rw c.gap_reset-reset.ensures
-          (absent_more _ _ _ _ _ _ c.gap_from-gap.ensures c.next_absent-i-in-loop-i.ensures c.loop-i.invariant.1),
-    )
+loop-i-preserved c = (
+  (c.next_absent-i-in-loop-i.ensures.most, c.next_absent-i-in-loop-i.ensures.absent),
+  rw c.gap_reset-reset.ensures
+      (absent_more _ _ _ _ _ _ c.gap_from-gap.ensures c.next_absent-i-in-loop-i.ensures c.loop-i.invariant.1),
+)
 
 pub returns : goal.returns
 returns c =

@@ -1,13 +1,10 @@
 -- `soundness::absent::absent_sound` meets its contract. The loop's invariant: the absent peers below i are tested, and i is the next.
-use Prim.Native.Nat.{ℕ, ◌-◌, ◌≤◌, ◌<◌}
+use Prim.Native.Nat.{◌-◌, ◌≤◌, ◌<◌}
 use mathlib.Core.Bool.{false}
-use mathlib.Core.Path.{◌≡◌, refl, sym, ap, ◌∙◌}
-use native.Mathlib.Omega.{arith}
-use borrow.Author.Rules.{rules}
+use mathlib.Core.Path.{◌≡◌}
 use Rattle.common.specs.Tests.{below}
 use Rattle.soundness.specs.Absent.{absent_slot}
 use Rattle.soundness.specs.Scanned.{joined}
-use Rattle.soundness.proofs.AbsentLaws.{present_more, absent_more}
 use Rattle.soundness.proofs.absent.absent_sound.Given as goal
 
 abbrev pub invariant-loop-i : goal.invariant-loop-i

@@ -1,7 +1,4 @@
-use Prim.Native.Nat.{◌-◌}
 use native.Mathlib.Omega.{arith}
-use borrow.Author.Rules.{rules}
-use Rattle.soundness.specs.Absent.{Vacant}
 use Rattle.soundness.proofs.AbsentLaws.{counted, gap_first, gap_more}
 use Rattle.soundness.proofs.absent.gap_from.Goals as goal
 

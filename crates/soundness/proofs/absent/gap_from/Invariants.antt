@@ -1,9 +1,6 @@
 -- `soundness::absent::gap_from` meets its contract. The loop's invariant: the ids passed are such a run.
 use Prim.Native.Nat.{◌-◌}
-use native.Mathlib.Omega.{arith}
-use borrow.Author.Rules.{rules}
 use Rattle.soundness.specs.Absent.{Vacant}
-use Rattle.soundness.proofs.AbsentLaws.{counted, gap_first, gap_more}
 use Rattle.soundness.proofs.absent.gap_from.Given as goal
 
 abbrev pub invariant-loop-p : goal.invariant-loop-p

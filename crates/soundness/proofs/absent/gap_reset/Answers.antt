@@ -1,6 +1,5 @@
 -- `soundness::absent::gap_reset` meets its contract: registers and entries are a slot's two parts.
 use native.Mathlib.Omega.{arith}
-use borrow.Author.Rules.{rules}
 use Rattle.soundness.proofs.AbsentLaws.{gap_tested}
 use Rattle.soundness.proofs.absent.gap_reset.Goals as goal
 

@@ -2,10 +2,7 @@
 use Prim.Native.Nat.{ℕ, ◌-◌, ◌≤◌, ◌<◌}
 use mathlib.Core.Bool.{true}
 use mathlib.Core.Path.{◌≡◌}
-use native.Mathlib.Omega.{arith}
-use Rattle.common.proofs.TestLaws.{by_equal}
 use Rattle.soundness.specs.Scanned.{joined}
-use Rattle.soundness.proofs.AbsentLaws.{counted}
 use Rattle.soundness.proofs.absent.next_absent.Given as goal
 
 abbrev pub invariant-loop-i : goal.invariant-loop-i

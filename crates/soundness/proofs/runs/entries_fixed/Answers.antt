@@ -1,5 +1,4 @@
 -- `soundness::runs::entries_fixed` meets its contract: the masks are the definition's.
-use borrow.Author.Rules.{rules}
 use Rattle.common.specs.Tests.{every}
 use Rattle.device.specs.Sound.{entry_fixed}
 use Rattle.soundness.proofs.runs.entries_fixed.Goals as goal

@@ -1,7 +1,5 @@
-use Prim.Native.Nat.{◌-◌, ◌≤◌}
 use mathlib.Core.Path.{◌≡◌}
 use native.Mathlib.Omega.{arith}
-use Rattle.soundness.specs.Scanned.{Scanned}
 use Rattle.soundness.proofs.ScanLaws.{scan_first, scan_last}
 use Rattle.soundness.proofs.runs.runs_sound.Goals as goal
 

@@ -1,9 +1,6 @@
 -- `soundness::runs::runs_sound` meets its contract. The loop's invariant: the peers passed have been scanned.
 use Prim.Native.Nat.{◌-◌, ◌≤◌}
-use mathlib.Core.Path.{◌≡◌}
-use native.Mathlib.Omega.{arith}
 use Rattle.soundness.specs.Scanned.{Scanned}
-use Rattle.soundness.proofs.ScanLaws.{scan_first, scan_last}
 use Rattle.soundness.proofs.runs.runs_sound.Given as goal
 
 abbrev pub invariant-loop-i : goal.invariant-loop-i

@@ -1,5 +1,4 @@
 -- `soundness::runs::scan_peer` meets its contract: the run goes on, or ends and another begins.
-use borrow.Author.Rules.{rules}
 use Rattle.soundness.proofs.ScanLaws.{unchanged, scan_same, scan_changed}
 use Rattle.soundness.proofs.runs.scan_peer.Goals as goal
 

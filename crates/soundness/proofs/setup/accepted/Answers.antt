@@ -1,6 +1,5 @@
 -- `soundness::setup::accepted` meets its contract: numbers that are not addable are not accepted.
 use mathlib.Core.Path.{sym, ◌∙◌}
-use borrow.Author.Rules.{rules}
 use Rattle.soundness.proofs.PartsLaws.{unaddable_refused}
 use Rattle.soundness.proofs.setup.accepted.Goals as goal
 

@@ -1,5 +1,4 @@
 -- `soundness::setup::addable` meets its contract: the tests are the definition's.
-use borrow.Author.Rules.{rules}
 use Rattle.common.specs.Tests.{every}
 use Rattle.soundness.specs.Parts.{addable}
 use Rattle.soundness.proofs.setup.addable.Goals as goal

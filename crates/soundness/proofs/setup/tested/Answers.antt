@@ -1,7 +1,6 @@
 -- `soundness::setup::tested` meets its contract: the tests are the definition's, but for the base address, whose sum is not made.
 use Prim.Native.Nat.{◌≤◌, ◌^◌}
 use native.Mathlib.Omega.{arith}
-use borrow.Author.Rules.{rules}
 use Rattle.common.specs.Tests.{every}
 use Rattle.device.specs.SetUp.{accepted, total}
 use Rattle.soundness.proofs.PartsLaws.{addable_facts, base_test}

@@ -1,5 +1,4 @@
 -- `soundness::setup::total` meets its contract: accepted numbers are addable.
-use borrow.Author.Rules.{rules}
 use Rattle.soundness.proofs.PartsLaws.{accepted_addable}
 use Rattle.soundness.proofs.setup.total.Goals as goal
 

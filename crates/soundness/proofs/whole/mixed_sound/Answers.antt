@@ -1,7 +1,6 @@
 -- `soundness::whole::mixed_sound` meets its contract: either way the tests are those of every slot.
 use mathlib.Core.Path.{ap}
 use native.Mathlib.Omega.{arith}
-use borrow.Author.Rules.{rules}
 use Rattle.device.specs.declared.Settings.{Settings}
 use Rattle.device.specs.Sound.{entry_fixed}
 use Rattle.soundness.proofs.AbsentLaws.{counted}

@@ -1,6 +1,5 @@
 -- `soundness::whole::see_peer` meets its contract: the peer is counted where it is connected.
 use native.Mathlib.Omega.{arith}
-use borrow.Author.Rules.{rules}
 use borrow.Author.Tests.{eq-eqb, ne_eqb}
 use Rattle.words.proofs.LayoutLaws.{known_inside}
 use Rattle.soundness.proofs.ScanLaws.{seen_joined, seen_absent}

@@ -1,9 +1,6 @@
-use Prim.Native.Nat.{◌-◌, ◌≤◌}
 use mathlib.Core.Path.{◌≡◌, ap}
 use native.Mathlib.Omega.{arith}
-use borrow.Author.Rules.{rules}
 use Rattle.device.specs.declared.Settings.{Settings}
-use Rattle.soundness.specs.Scanned.{Seen}
 use Rattle.soundness.proofs.ScanLaws.{seen_first}
 use Rattle.soundness.proofs.whole.see_peers.Goals as goal
 

@@ -1,11 +1,6 @@
 -- `soundness::whole::see_peers` meets its contract. The loop's invariant: the peers passed have been seen.
 use Prim.Native.Nat.{◌-◌, ◌≤◌}
-use mathlib.Core.Path.{◌≡◌, ap}
-use native.Mathlib.Omega.{arith}
-use borrow.Author.Rules.{rules}
-use Rattle.device.specs.declared.Settings.{Settings}
 use Rattle.soundness.specs.Scanned.{Seen}
-use Rattle.soundness.proofs.ScanLaws.{seen_first}
 use Rattle.soundness.proofs.whole.see_peers.Given as goal
 
 abbrev pub invariant-loop-i : goal.invariant-loop-i

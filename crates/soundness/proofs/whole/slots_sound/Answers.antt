@@ -1,7 +1,6 @@
 -- `soundness::whole::slots_sound` meets its contract: all peers are connected, or none, or some.
-use mathlib.Core.Path.{ap, ◌∙◌}
+use mathlib.Core.Path.{ap}
 use native.Mathlib.Omega.{arith}
-use borrow.Author.Rules.{rules}
 use Rattle.device.specs.declared.Settings.{Settings}
 use Rattle.soundness.proofs.ScanLaws.{one_run}
 use Rattle.soundness.proofs.WholeLaws.{all_joined, none_joined}

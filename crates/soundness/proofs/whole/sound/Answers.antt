@@ -1,7 +1,5 @@
 -- `soundness::whole::sound` meets its contract: words that do not fit are the all-zero hub, which is not sound.
 use mathlib.Core.Path.{sym, ◌∙◌}
-use borrow.Author.Rules.{rules}
-use borrow.Author.Tests.{not-true, not-false}
 use Rattle.device.proofs.SetUpLaws.{zero_unsound}
 use Rattle.device.specs.Sound.{sound}
 use Rattle.words.proofs.LayoutLaws.{no_hub}
