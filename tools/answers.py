@@ -299,6 +299,8 @@ def turn(crate, path, known, said):
             body = as_record(body, asked)
             if len(asked) == 2 and re.match(r"\w", body.strip()) and " in" not in body and "record" not in body and not re.match(r"(rw|simp|omega|search|cc|grind|refl)\b", body.strip()):
                 body = f"let r = {body.strip()} in record {{ {asked[0]} = r.0; {asked[1]} = r.1 }}"
+        if len(asked) == 1 and asked[0]:
+            body = f"record {{ {asked[0]} = {body.strip()} }}"
         body = re.sub(r"c\.enum_told(?:-\d+)?\.given\.1", "c.in_default.is", body)
         if body.strip() in PLAIN and not opened:
             continue

@@ -1,4 +1,6 @@
 // Deliveries by value, in ring order, and the rings at every other id.
+#![tactic(auto)]
+
 ghost use Rattle.std.specs.Prelude.{◌≡◌, ◌<◌, ◌≤◌, length};
 ghost use Rattle.device.specs.Ring;
 ghost use Rattle.device.specs.Ring.{peer_id, vector};
@@ -10,7 +12,7 @@ use device::{Delivery, PeerId, Vector};
 
 // Who was delivered to, in ring order, and the vector: a call rings one vector, each id at most once. Address and data stand in
 // the targets' entries, which no ring changes.
-#[derive(Drop)]
+#[derive(Clone, Copy)]
 pub struct Deliveries {
     pub count: usize,
     pub vector: Vector,
