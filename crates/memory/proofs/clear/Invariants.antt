@@ -1,10 +1,8 @@
 -- `memory::clear` meets its contract. The loop's invariant: the bytes passed are zero, the others as they were.
-use Prim.Native.Nat.{ℕ, ◌-◌, ◌≤◌}
+use Prim.Native.Nat.{◌-◌, ◌≤◌}
 use mathlib.Core.List.{◌++◌}
-use mathlib.Core.Path.{◌≡◌, refl, sym, ap, ◌∙◌}
-use native.Mathlib.Omega.{arith}
-use lib.ListN.{length, length-set, drop, replicate}
-use Rattle.common.proofs.ListLaws.{filled_more, filled_all}
+use mathlib.Core.Path.{◌≡◌}
+use lib.ListN.{length, drop, replicate}
 use Rattle.memory.proofs.clear.Given as goal
 
 abbrev pub invariant-loop-k : goal.invariant-loop-k

@@ -1,10 +1,8 @@
 -- `memory::load` meets its contract. The loop's invariant: the bytes passed are pasted over the buffer's.
-use Prim.Native.Nat.{ℕ, ◌-◌, ◌≤◌}
-use mathlib.Core.Path.{◌≡◌, refl, ap, ◌∙◌}
-use native.Mathlib.Omega.{arith}
-use lib.ListN.{length, length-set, drop}
-use lib.Seq.{paste, paste-zero}
-use Rattle.memory.proofs.PasteLaws.{load_turn, paste_full}
+use Prim.Native.Nat.{◌-◌, ◌≤◌}
+use mathlib.Core.Path.{◌≡◌}
+use lib.ListN.{length, drop}
+use lib.Seq.{paste}
 use Rattle.memory.proofs.load.Given as goal
 
 abbrev pub invariant-loop-k : goal.invariant-loop-k

@@ -3,7 +3,6 @@ use Prim.Native.Nat.{◌/◌}
 use native.Mathlib.Omega.{arith}
 use lib.Bits.{and_le_r}
 use borrow.Author.Tests.{lt-ltb, le-ltb}
-use borrow.Author.Rules.{rules}
 use Rattle.configuration.proofs.writing.merged_last.Goals as goal
 
 pub returns-then-bits-lt16777216 : goal.returns-then-bits-lt16777216
