@@ -12,8 +12,7 @@ pub loop-k-preserved : goal.loop-k-preserved
 loop-k-preserved c = (
   omega arith,
   simp length-set (omega arith),
-  rw c.loop-k.invariant.2
-      (filled_more c.loop-k.k 0 c.args.region.now (omega arith)),
+  rw c.loop-k.invariant.2 (filled_more c.loop-k.k 0 c.args.region.now (omega arith)),
 )
 
 pub shape_of-region : goal.shape_of-region

@@ -6,7 +6,9 @@ use lib.ListN.{length, drop, replicate}
 use Rattle.memory.proofs.clear.Given as goal
 
 abbrev pub invariant-loop-k : goal.invariant-loop-k
-invariant-loop-k l = (l.k ≤ length l.initial.region) × (length l.region ≡ length l.initial.region) × (l.region ≡ replicate l.k 0 ++ drop l.k l.initial.region)
+invariant-loop-k l =
+    (l.k ≤ length l.initial.region) × (length l.region ≡ length l.initial.region)
+    × (l.region ≡ replicate l.k 0 ++ drop l.k l.initial.region)
 
 abbrev pub decreases-loop-k : goal.decreases-loop-k
 decreases-loop-k l = length l.initial.region - l.k

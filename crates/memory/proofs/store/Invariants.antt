@@ -6,7 +6,9 @@ use lib.Seq.{paste}
 use Rattle.memory.proofs.store.Given as goal
 
 abbrev pub invariant-loop-k : goal.invariant-loop-k
-invariant-loop-k l = (l.k ≤ length l.stored) × (length l.region ≡ length l.initial.region) × (l.region ≡ paste l.initial.region l.offset l.stored l.k)
+invariant-loop-k l =
+    (l.k ≤ length l.stored) × (length l.region ≡ length l.initial.region)
+    × (l.region ≡ paste l.initial.region l.offset l.stored l.k)
 
 abbrev pub decreases-loop-k : goal.decreases-loop-k
 decreases-loop-k l = length l.stored - l.k
