@@ -10,7 +10,7 @@ use device::{Delivery, PeerId, Vector};
 
 // Who was delivered to, in ring order, and the vector: a call rings one vector, each id at most once. Address and data stand in
 // the targets' entries, which no ring changes.
-#[derive(Drop)]
+#[derive(Clone, Copy)]
 pub struct Deliveries {
     pub count: usize,
     pub vector: Vector,

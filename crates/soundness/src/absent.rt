@@ -7,7 +7,7 @@ ghost use Rattle.soundness.specs.Absent.{Here, NextAbsent, Tells, Vacant, absent
 use device::Peer;
 
 // A run of ids whose peers are not connected: where it ends, and the registers of its peers together.
-#[derive(Drop)]
+#[derive(Clone, Copy)]
 struct Gap {
     to: usize,
     all: Peer,
