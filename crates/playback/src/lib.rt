@@ -11,7 +11,7 @@ ghost use Rattle.playback.specs.Player.{fed, fresh};
 ghost use Rattle.playback.specs.Promises.{Lent, Goes, Feeds, Refuses, Ends, player_in, is_lent, refusal_of};
 
 // Where a player stands, beside what its lent memory holds.
-#[derive(Drop)]
+#[derive(Clone, Copy)]
 pub struct Progress {
     // the words and the bytes of the lent memory that are the hub and its region: none without an accepted set-up
     pub words: usize,
