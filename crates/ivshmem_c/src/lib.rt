@@ -1,5 +1,5 @@
-// The library that a host links: one export for each call, which passes it on to the function of the same name in crates/ivshmem
-// and promises what that one does.
+// The library that a host links: one export for each call. It passes the call on to the function of the same name in crates/ivshmem,
+// and has its clauses word for word.
 #![tactic(auto)]
 
 ghost use Rattle.std.specs.Prelude.{◌≡◌, ℕ, cond, length};
