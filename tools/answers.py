@@ -121,6 +121,37 @@ def as_record(body, labels):
     return body[:i] + "record { " + "; ".join(f"{n} = {p}" for n, p in zip(labels, parts)) + " }"
 
 
+def taken_apart(body, labels):
+    """Where a body ends with a lemma's pairs, the record of their parts."""
+    body = body.strip()
+    at = max(body.rfind(" in\n"), body.rfind(" in "))
+    depth = 0
+    for ch in body[at if at > 0 else 0 :]:
+        depth += (ch in "([{") - (ch in ")]}")
+        if depth < 0:
+            return body
+    head, last = (body[: at + 3], body[at + 3 :].strip()) if at >= 0 else ("", body)
+    if re.match(r"(rw|simp|omega|search|cc|grind|refl|record|elim|let)\b", last) or not re.match(r"[A-Za-z(]", last):
+        return body
+    if re.fullmatch(r"[\w.'-]+", last):
+        value, bind = last, ""
+    else:
+        value, bind = "r", f"let r = {last} in\n    "
+    fields = [f"{n} = {value}{'.1' * k}{'.0' if k < len(labels) - 1 else ''}" for k, n in enumerate(labels)]
+    return f"{head}{' ' if head and not head.endswith((' ', chr(10))) else ''}{bind}record {{ {'; '.join(fields)} }}"
+
+
+NEGATED = r"(c\.if-not-\w+\.(?:true|false))"
+
+
+def not_doubled(body):
+    """A test of `!x` at a variable says what x is."""
+    some = r"(?:_|[\w.-]+|\([^()]*\))"
+    body = re.sub(r"\(not-(?:true|false) " + some + r" " + NEGATED + r"\)", r"\1", body)
+    body = re.sub(r"not-(?:true|false) " + some + r" \(" + NEGATED + r"\)", r"\1", body)
+    return re.sub(r"not-(?:true|false) " + some + r" " + NEGATED, r"\1", body)
+
+
 def blocks(text):
     """The file's head, and its declarations with the comments above each."""
     out, now = [], []
@@ -145,6 +176,15 @@ def goals(block):
 def labelled(body, own, callees, params):
     """Clauses and changed parameters by their names."""
     body = re.sub(r"(?<!" + WORD + r")(?<!\.)c\.requires((?:\.\d+)+)", lambda m: "c.requires" + named(m.group(1), own["requires"]), body)
+
+    if len(own["requires"]) == 1 and own["requires"][0]:
+        body = re.sub(r"(?<!" + WORD + r")(?<!\.)c\.requires(?!" + WORD + ")", "c.requires." + own["requires"][0], body)
+
+    def lone(m):
+        labels = CLAUSES.get(callees.get(m.group(1)), {"ensures": []})["ensures"]
+        return m.group(0) + ("." + labels[0] if len(labels) == 1 and labels[0] else "")
+
+    body = re.sub(r"(?<!" + WORD + r")(?<!\.)c\.(" + WORD + r"+)\.ensures(?!" + WORD + ")", lone, body)
 
     def ensured(m):
         callee = callees.get(m.group(1))
@@ -175,7 +215,10 @@ def flat(body, steps):
     body = re.sub(r"(?<!" + WORD + r")(?<!\.)(?:" + heads + r")((?:\.before)*)(?!" + WORD + r")", "c", body)
 
     def step(m):
-        return "c." + steps.get(plain(m.group(1)), m.group(1))
+        old = plain(m.group(1)).lower()
+        if old not in steps and re.sub(r"2$", "", old) in steps:
+            old = re.sub(r"2$", "", old)
+        return "c." + steps.get(old, m.group(1))
 
     return re.sub(r"(?<!" + WORD + r")(?<!\.)c\.(" + WORD + r"+)", step, body)
 
@@ -224,7 +267,7 @@ def turn(crate, path, known, said):
     for place in k["places"]:
         old, new = place[2]
         if old:
-            steps[plain(old)] = new
+            steps[plain(old).lower()] = new
     callees = {place[2][1]: place[3] for place in k["places"] if place[3]}
     mine = CLAUSES.get("::".join([crate] + f.split("/")), {"requires": [], "ensures": []})
     parts = blocks(text)
@@ -278,13 +321,17 @@ def turn(crate, path, known, said):
         body = "\n".join(rest)
         body = re.sub(r"^" + re.escape(name) + r"(?: c)?(?: κs)?(?: qs)?", "", body, count=1)
         body = re.sub(r"^ *= ?", "", body)
-        body = labelled(flat(body, steps), mine, callees, k["params"])
+        body = not_doubled(labelled(flat(body, steps), mine, callees, k["params"]))
         old_name = {n: o for o, n in k["needs"]}.get(new, new)
         asked = k["asked"].get(old_name, k["asked"].get(new, []))
-        if new.startswith("returns") and len(mine["ensures"]) > 1:
+        if new.startswith("returns") and mine["ensures"] and mine["ensures"][0]:
             asked = mine["ensures"]
         if len(asked) > 1:
             body = as_record(body, asked)
+            body = taken_apart(body, asked)
+        if len(asked) == 1 and asked[0]:
+            body = f"record {{ {asked[0]} = {body.strip()} }}"
+        body = re.sub(r"c\.enum_told(?:-\d+)?\.given\.1", "c.in_default.is", body)
         if body.strip() in PLAIN and not opened:
             continue
         sep = "\n    " if body.startswith("\n") is False and "\n" in body and not body.strip().startswith(("record", "rw", "simp")) else " "

@@ -1,4 +1,6 @@
 // Configuration space: what a read gives, and what a write leaves.
+#![tactic(auto)]
+
 mod lanes;
 mod reading;
 mod writing;

@@ -1,3 +1,2 @@
 pub mod HandedOut
-pub mod Lent
 pub mod ListedLaws

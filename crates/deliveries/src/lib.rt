@@ -1,4 +1,6 @@
 // Deliveries by value, in ring order, and the rings at every other id.
+#![tactic(auto)]
+
 ghost use Rattle.std.specs.Prelude.{◌≡◌, ◌<◌, ◌≤◌, length};
 ghost use Rattle.device.specs.Ring;
 ghost use Rattle.device.specs.Ring.{peer_id, vector};

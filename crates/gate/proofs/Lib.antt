@@ -1,2 +1,1 @@
-pub mod GateValue
 pub mod RingLaws

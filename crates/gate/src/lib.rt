@@ -1,4 +1,6 @@
 // One ring: the target's switches, and what a delivery leaves.
+#![tactic(auto)]
+
 use device::Gate;
 
 mod lent;
@@ -10,7 +12,7 @@ pub use rings::ring;
 use switches::{gate_of, opens, passed_gate};
 
 // A gate after a ring, and whether the ring was delivered.
-#[derive(Drop)]
+#[derive(Clone, Copy)]
 pub struct Passed {
     pub delivered: bool,
     pub gate: Gate,

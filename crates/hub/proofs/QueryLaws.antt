@@ -1,12 +1,11 @@
 -- What a connect is refused with says whether the peer is connected.
 use Prim.Native.Nat.{ℕ}
-use mathlib.Core.Bool.{Bool, true, false, not}
-use mathlib.Core.List.{List, [], ◌∷◌}
+use mathlib.Core.Bool.{Bool, true, false}
 use mathlib.Core.Path.{◌≡◌, refl, sym, ◌∙◌}
 use native.Mathlib.Omega.{arith}
 use lib.Dec.{eqb, leb}
 use borrow.Author.Tests.{eqb-true, eqb-false}
-use Rattle.common.specs.Tests.{row, first}
+use Rattle.common.specs.Tests.{first}
 use Rattle.device.specs.declared.Reply.{Reply}
 use Rattle.device.specs.Sound.{sound}
 use Rattle.device.specs.World.{Hub, slot_at}

@@ -4,7 +4,7 @@ use Rattle.common.specs.Tests.{first}
 use Rattle.device.specs.declared.Reply.{Reply}
 use Rattle.device.specs.declared.SectionReply.{SectionReply}
 use Rattle.device.specs.declared.Settings.{Settings}
-use Rattle.device.specs.Call.{Act, Call, call}
+use Rattle.device.specs.Call.{Call}
 use Rattle.device.specs.Effect.{Operation, changes, entered}
 use Rattle.device.specs.SetUp.{set_up_refusal, hub_after_set_up, region_after_set_up}
 use Rattle.device.specs.Step.{run_all, step, reply_of, section_reply_of}

@@ -1,4 +1,6 @@
 // The shared region's bytes: cleared, loaded, stored, and the four bytes of a State Table entry.
+#![tactic(auto)]
+
 ghost use Rattle.std.specs.Prelude.{◌≡◌, ◌+◌, ◌*◌, ◌≤◌, length, take, drop, replicate};
 ghost use Rattle.std.proofs.lemmas.List.Edits.{sets};
 ghost use Rattle.common.specs.Bytes.{bytes};

@@ -1,4 +1,6 @@
 // The MSI-X region: where an offset lies, and the words of an entry, read and written.
+#![tactic(auto)]
+
 ghost use Rattle.std.specs.Prelude.{◌≡◌};
 ghost use Rattle.device.specs.Msix.{in_table, entry_word, with_word};
 

@@ -1,4 +1,6 @@
 // The register region: what a read gives, and the registers with one of them stored to.
+#![tactic(auto)]
+
 ghost use Rattle.std.specs.Prelude.{◌≡◌, ◌<◌, ◌^◌};
 ghost use Rattle.std.specs.Int.Bits.{bit_and};
 ghost use Rattle.device.specs.Effect.{with_state, state_value, changes, rung_peer, rung_vector};

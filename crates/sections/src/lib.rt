@@ -1,4 +1,6 @@
 // The sections of the shared region: which one holds a range, and who may store to it.
+#![tactic(auto)]
+
 ghost use Rattle.std.specs.Prelude.{◌≡◌, true, ◌+◌, ◌≤◌, ◌<◌, ◌^◌};
 ghost use Rattle.device.specs.SetUp.{accepted};
 ghost use Rattle.device.specs.Sections.{outputs, section_in, section_of, somewhere, may_store, answer_of};

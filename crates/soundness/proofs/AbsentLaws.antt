@@ -3,17 +3,16 @@ use Prim.Native.Nat.{ℕ, suc, ◌+◌, ◌-◌, ◌^◌, ◌≤◌, ◌<◌}
 use mathlib.Core.Bool.{Bool, true, false, not, ◌&&◌, ◌||◌}
 use mathlib.Core.List.{List}
 use mathlib.Core.Path.{◌≡◌, refl, sym, ap, ◌∙◌}
-use native.Mathlib.Numerals.{add-one}
 use native.Mathlib.Omega.{arith}
 use Rattle.common.proofs.TestLaws.{and_true, by_equal, below_suc, below_add, below_ext, below_both, true_below}
 use Rattle.common.specs.Tests.{below}
 use Rattle.device.specs.Sound.{peer_reset, entry_reset}
-use Rattle.device.specs.World.{slot_at, entry_at}
+use Rattle.device.specs.World.{slot_at}
 use Rattle.words.specs.Layout.{hub_of, Known}
 use Rattle.words.specs.Runs.{run_of}
 use Rattle.words.proofs.LayoutLaws.{known_inside}
 use Rattle.soundness.specs.declared.absent.Gap.{Gap}
-use Rattle.soundness.specs.Absent.{slot_reset, absent_slot, Tells, Here, NextAbsent, Vacant, gap_reset}
+use Rattle.soundness.specs.Absent.{absent_slot, Tells, Here, NextAbsent, Vacant, gap_reset}
 use Rattle.soundness.specs.Scanned.{joined}
 use Rattle.soundness.specs.Together.{together}
 use Rattle.soundness.proofs.TogetherLaws.{reset_together}

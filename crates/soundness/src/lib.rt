@@ -1,4 +1,6 @@
 // Refusal 10: the hub handed in is sound. The tests of a slot's parts, then of the whole hub.
+#![tactic(auto)]
+
 mod absent;
 mod parts;
 mod runs;

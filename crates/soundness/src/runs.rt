@@ -8,7 +8,7 @@ ghost use Rattle.soundness.specs.Scanned.{Scanned, Uniform, absent_registers, en
 
 // The peers passed so far: whether the registers of those that are not connected, and the entries of all but the last run, are
 // sound; where that run begins, and whether its peers are connected.
-#[derive(Drop)]
+#[derive(Clone, Copy)]
 struct Scan {
     ok: bool,
     from: usize,

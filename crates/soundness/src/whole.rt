@@ -11,7 +11,7 @@ ghost use Rattle.soundness.specs.Scanned.{Seen};
 use device::{Peer, Settings};
 
 // The peers passed so far: their registers together, and how many are connected.
-#[derive(Drop)]
+#[derive(Clone, Copy)]
 struct Peers {
     all: Peer,
     connected: usize,

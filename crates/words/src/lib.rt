@@ -1,5 +1,7 @@
 // The hub as an array of words that the host lends: the only crate that knows where what stands. Each contract speaks of the
 // hub that the words are.
+#![tactic(auto)]
+
 mod columns;
 mod entries;
 mod header;

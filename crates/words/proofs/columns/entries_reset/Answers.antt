@@ -1,6 +1,5 @@
 -- `words::columns::entries_reset` meets its contract: the words of the run are its peers' entries.
 use mathlib.Core.Path.{◌∙◌}
-use borrow.Author.Rules.{rules}
 use Rattle.words.proofs.RunLaws.{run_is}
 use Rattle.words.proofs.columns.entries_reset.Goals as goal
 

@@ -1,6 +1,5 @@
 -- `words::columns::run_places` meets its contract: the rows of the run's peers follow each other.
 use native.Mathlib.Omega.{arith}
-use borrow.Author.Rules.{rules}
 use Rattle.words.proofs.LayoutLaws.{known_inside}
 use Rattle.words.proofs.RunLaws.{run_known, run_rows, run_stands}
 use Rattle.words.proofs.columns.run_places.Goals as goal

@@ -1,12 +1,8 @@
-use Prim.Native.Nat.{◌+◌, ◌-◌, ◌*◌, ◌≤◌}
-use mathlib.Core.Bool.{◌&&◌}
 use mathlib.Core.Path.{◌≡◌, refl, sym}
 use native.Mathlib.Numerals.{add-one}
 use native.Mathlib.Omega.{arith}
 use Rattle.common.proofs.TestLaws.{below_suc}
-use Rattle.common.specs.Bytes.{only}
 use Rattle.common.specs.Tests.{below}
-use Rattle.words.specs.Layout.{word}
 use Rattle.words.proofs.RunLaws.{only_more}
 use Rattle.words.proofs.columns.words_only.Goals as goal
 

@@ -1,14 +1,10 @@
 -- `words::columns::words_only` meets its contract. The loop's invariant: what is collected keeps to the masks where the words passed do.
 use Prim.Native.Nat.{◌+◌, ◌-◌, ◌*◌, ◌≤◌}
 use mathlib.Core.Bool.{◌&&◌}
-use mathlib.Core.Path.{◌≡◌, refl, sym}
-use native.Mathlib.Numerals.{add-one}
-use native.Mathlib.Omega.{arith}
-use Rattle.common.proofs.TestLaws.{below_suc}
+use mathlib.Core.Path.{◌≡◌}
 use Rattle.common.specs.Bytes.{only}
 use Rattle.common.specs.Tests.{below}
 use Rattle.words.specs.Layout.{word}
-use Rattle.words.proofs.RunLaws.{only_more}
 use Rattle.words.proofs.columns.words_only.Given as goal
 
 abbrev pub invariant-loop-k : goal.invariant-loop-k

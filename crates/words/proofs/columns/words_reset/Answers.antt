@@ -1,11 +1,9 @@
-use Prim.Native.Nat.{◌+◌, ◌-◌, ◌≤◌}
+use Prim.Native.Nat.{◌+◌}
 use mathlib.Core.Path.{◌≡◌, refl, sym, ◌∙◌}
 use native.Mathlib.Numerals.{add-one}
 use native.Mathlib.Omega.{arith}
-use lib.Dec.{eqb}
 use Rattle.common.proofs.TestLaws.{below_suc}
 use Rattle.common.specs.Tests.{below}
-use Rattle.device.specs.Sound.{entry_reset}
 use Rattle.words.specs.Parts.{entry_from}
 use Rattle.words.proofs.RunLaws.{reset_more}
 use Rattle.words.proofs.columns.words_reset.Goals as goal

@@ -1,14 +1,10 @@
 -- `words::columns::words_reset` meets its contract. The loop's invariant: no fault is collected where the words passed hold reset values.
 use Prim.Native.Nat.{◌+◌, ◌-◌, ◌≤◌}
-use mathlib.Core.Path.{◌≡◌, refl, sym, ◌∙◌}
-use native.Mathlib.Numerals.{add-one}
-use native.Mathlib.Omega.{arith}
+use mathlib.Core.Path.{◌≡◌}
 use lib.Dec.{eqb}
-use Rattle.common.proofs.TestLaws.{below_suc}
 use Rattle.common.specs.Tests.{below}
 use Rattle.device.specs.Sound.{entry_reset}
 use Rattle.words.specs.Parts.{entry_from}
-use Rattle.words.proofs.RunLaws.{reset_more}
 use Rattle.words.proofs.columns.words_reset.Given as goal
 
 abbrev pub invariant-loop-k : goal.invariant-loop-k

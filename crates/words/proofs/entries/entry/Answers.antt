@@ -1,7 +1,6 @@
 -- `words::entries::entry` meets its contract: the first two words are the numbers of peers and vectors.
 use mathlib.Core.Path.{sym, ◌∙◌}
 use native.Mathlib.Omega.{arith}
-use borrow.Author.Rules.{rules}
 use Rattle.words.proofs.LayoutLaws.{known_inside, peers_at_lem, vectors_at}
 use Rattle.words.proofs.entries.entry.Goals as goal
 

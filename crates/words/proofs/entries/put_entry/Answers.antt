@@ -1,7 +1,6 @@
 -- `words::entries::put_entry` meets its contract: the first two words are the numbers of peers and vectors.
 use mathlib.Core.Path.{refl}
 use native.Mathlib.Omega.{arith}
-use borrow.Author.Rules.{rules}
 use Rattle.words.proofs.LayoutLaws.{known_inside, peers_at_lem, vectors_at}
 use Rattle.words.proofs.entries.put_entry.Goals as goal
 
@@ -21,10 +20,14 @@ overflow_mul-n c = rw (c.count-n.ensures, c.count-m.ensures) (omega (arith, know
 
 pub put_entry_from-requires : goal.put_entry_from-requires
 put_entry_from-requires c =
-    let i = known_inside _ _ c.requires.known in record { places = rw (
+    let i = known_inside _ _ c.requires.known in record {
+      places = rw (
         c.entry_start-start.ensures,
         c.count-n.ensures,
         c.count-m.ensures,
         peers_at_lem i.sized,
         vectors_at i.sized,
-      ) (refl, refl); known = c.requires.known; vector = c.requires.vector }
+      ) (refl, refl);
+      known = c.requires.known;
+      vector = c.requires.vector;
+    }

@@ -2,7 +2,6 @@
 use Prim.Native.Nat.{◌+◌}
 use mathlib.Core.Path.{◌≡◌}
 use native.Mathlib.Omega.{arith}
-use borrow.Author.Rules.{rules}
 use Rattle.words.specs.Layout.{entry_start, word}
 use Rattle.words.proofs.IndexLaws.{row_below, entry_below}
 use Rattle.words.proofs.LayoutLaws.{known_inside, peers_at_lem, vectors_at, entry_put}

@@ -1,7 +1,6 @@
 -- `words::header::put_settings` meets its contract: the first ten words are stored, and ask for as many words as there are.
 use mathlib.Core.Path.{◌∙◌}
 use native.Mathlib.Omega.{arith}
-use borrow.Author.Rules.{rules}
 use Rattle.words.specs.Layout.{hub_words}
 use Rattle.words.proofs.LayoutLaws.{settings_put}
 use Rattle.words.proofs.header.put_settings.Goals as goal

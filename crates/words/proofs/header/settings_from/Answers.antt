@@ -1,6 +1,5 @@
 -- `words::header::settings_from` meets its contract: each field is the word read for it.
 use Rattle.words.specs.Layout.{settings_of}
-use borrow.Author.Rules.{rules}
 use Rattle.words.proofs.header.settings_from.Goals as goal
 
 pub returns : goal.returns

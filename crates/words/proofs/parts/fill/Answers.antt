@@ -1,8 +1,6 @@
-use Prim.Native.Nat.{◌-◌, ◌≤◌}
 use mathlib.Core.Path.{◌≡◌, refl}
 use native.Mathlib.Omega.{arith}
-use lib.ListN.{length, length-set}
-use Rattle.words.specs.Parts.{Filled}
+use lib.ListN.{length-set}
 use Rattle.words.proofs.PartLaws.{filled_none, filled_one}
 use Rattle.words.proofs.parts.fill.Goals as goal
 

@@ -1,10 +1,8 @@
 -- `words::parts::fill` meets its contract. The loop's invariant: the words passed hold the value, and all else is as it was.
 use Prim.Native.Nat.{◌-◌, ◌≤◌}
-use mathlib.Core.Path.{◌≡◌, refl}
-use native.Mathlib.Omega.{arith}
-use lib.ListN.{length, length-set}
+use mathlib.Core.Path.{◌≡◌}
+use lib.ListN.{length}
 use Rattle.words.specs.Parts.{Filled}
-use Rattle.words.proofs.PartLaws.{filled_none, filled_one}
 use Rattle.words.proofs.parts.fill.Given as goal
 
 abbrev pub invariant-loop-k : goal.invariant-loop-k

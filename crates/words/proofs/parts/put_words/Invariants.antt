@@ -1,11 +1,9 @@
 -- `words::parts::put_words` meets its contract. The loop's invariant: the values passed are stored, and all else is as it was.
-use Prim.Native.Nat.{ℕ, ◌+◌, ◌-◌, ◌*◌, ◌≤◌, ◌<◌}
-use mathlib.Core.Path.{◌≡◌, refl}
+use Prim.Native.Nat.{ℕ, ◌+◌, ◌-◌, ◌*◌, ◌≤◌}
+use mathlib.Core.Path.{◌≡◌}
 use mathlib.Core.List.{List}
-use native.Mathlib.Omega.{arith}
-use lib.ListN.{length, length-set}
+use lib.ListN.{length}
 use Rattle.words.specs.Parts.{Copied}
-use Rattle.words.proofs.PartLaws.{copied_none, copied_more}
 use Rattle.words.proofs.parts.put_words.Given as goal
 
 pub record Inv (hub₀ : List ℕ) (at step : ℕ) (values hub : List ℕ) (k : ℕ) : Type 0 where

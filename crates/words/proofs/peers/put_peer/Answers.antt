@@ -1,6 +1,5 @@
 -- `words::peers::put_peer` meets its contract: eight words inside the hub are stored.
 use native.Mathlib.Omega.{arith}
-use borrow.Author.Rules.{rules}
 use Rattle.words.proofs.LayoutLaws.{known_inside, peer_put}
 use Rattle.words.proofs.peers.put_peer.Goals as goal
 

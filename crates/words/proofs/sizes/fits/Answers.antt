@@ -1,7 +1,6 @@
 -- `words::sizes::fits` meets its contract: the code's tests are the definition's, one by one.
 use mathlib.Core.Path.{sym}
 use native.Mathlib.Omega.{arith}
-use borrow.Author.Rules.{rules}
 use lib.ListN.{length}
 use borrow.Author.Tests.{le-leb, lt-leb, ne_eqb}
 use Rattle.common.proofs.TestLaws.{every_false}

@@ -1,6 +1,5 @@
 -- `words::slots::put_fresh` meets its contract: the words have their values in three steps.
 use native.Mathlib.Omega.{arith}
-use borrow.Author.Rules.{rules}
 use Rattle.device.proofs.SizeLaws.{max_peers_small}
 use Rattle.words.specs.Layout.{hub_words}
 use Rattle.words.proofs.IndexLaws.{entries_small}

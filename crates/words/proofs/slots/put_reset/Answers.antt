@@ -1,13 +1,9 @@
-use Prim.Native.Nat.{ℕ, ◌*◌, ◌-◌, ◌≤◌}
-use mathlib.Core.List.{List}
 use mathlib.Core.Path.{◌≡◌, refl, sym, ap, ◌∙◌}
 use native.Mathlib.Omega.{arith}
-use borrow.Author.Rules.{rules}
-use lib.ListN.{length}
-use Rattle.device.specs.World.{Hub, slot_at, with_slot}
-use Rattle.words.specs.Layout.{entry_start, hub_of, Known}
+use Rattle.device.specs.World.{Hub}
+use Rattle.words.specs.Layout.{Known}
 use Rattle.words.proofs.LayoutLaws.{known_inside, peers_at_lem, vectors_at}
-use Rattle.words.proofs.SlotLaws.{cleared, slot_kept, cleared_more, cleared_all}
+use Rattle.words.proofs.SlotLaws.{slot_kept, cleared_more, cleared_all}
 use Rattle.words.proofs.slots.put_reset.Goals as goal
 
 pub put_peer-requires : goal.put_peer-requires
@@ -45,8 +41,12 @@ loop-v-init c =
 
 pub put_entry_from-requires : goal.put_entry_from-requires
 put_entry_from-requires c =
-    let s = c.loop-v.invariant.reset in record { places = (rw s c.loop-v.invariant.first, rw s c.loop-v.invariant.apart); known = rw s c.loop-v.invariant.known; vector = rw s (rw c.loop-v.invariant.vectors
-            at c.loop-v-test.true) }
+    let s = c.loop-v.invariant.reset in record {
+      places = (rw s c.loop-v.invariant.first, rw s c.loop-v.invariant.apart);
+      known = rw s c.loop-v.invariant.known;
+      vector = rw s (rw c.loop-v.invariant.vectors
+          at c.loop-v-test.true);
+    }
 
 pub loop-v-preserved : goal.loop-v-preserved
 loop-v-preserved c =

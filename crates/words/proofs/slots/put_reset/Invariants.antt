@@ -1,14 +1,11 @@
 -- `words::slots::put_reset` meets its contract. The loop's invariant: of the slot, the entries passed are at reset.
 use Prim.Native.Nat.{ℕ, ◌*◌, ◌-◌, ◌≤◌}
 use mathlib.Core.List.{List}
-use mathlib.Core.Path.{◌≡◌, refl, sym, ap, ◌∙◌}
-use native.Mathlib.Omega.{arith}
-use borrow.Author.Rules.{rules}
+use mathlib.Core.Path.{◌≡◌}
 use lib.ListN.{length}
-use Rattle.device.specs.World.{Hub, slot_at, with_slot}
+use Rattle.device.specs.World.{slot_at, with_slot}
 use Rattle.words.specs.Layout.{entry_start, hub_of, Known}
-use Rattle.words.proofs.LayoutLaws.{known_inside, peers_at_lem, vectors_at}
-use Rattle.words.proofs.SlotLaws.{cleared, slot_kept, cleared_more, cleared_all}
+use Rattle.words.proofs.SlotLaws.{cleared}
 use Rattle.words.proofs.slots.put_reset.Given as goal
 
 pub record Inv (hub₀ : List ℕ) (i m start column : ℕ) (hub : List ℕ) (v : ℕ) : Type 0 where

@@ -1,10 +1,8 @@
 -- `words::slots::put_zero` meets its contract. The loop's invariant: the words passed are zero, the others as they were.
-use Prim.Native.Nat.{ℕ, ◌-◌, ◌≤◌}
-use mathlib.Core.Path.{◌≡◌, refl, sym, ap, ◌∙◌}
+use Prim.Native.Nat.{◌-◌, ◌≤◌}
+use mathlib.Core.Path.{◌≡◌}
 use mathlib.Core.List.{◌++◌}
-use native.Mathlib.Omega.{arith}
-use lib.ListN.{length, length-set, drop, replicate}
-use Rattle.common.proofs.ListLaws.{filled_more, filled_all}
+use lib.ListN.{length, drop, replicate}
 use Rattle.words.proofs.slots.put_zero.Given as goal
 
 abbrev pub invariant-loop-k : goal.invariant-loop-k
