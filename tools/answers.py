@@ -191,12 +191,28 @@ def labelled(body, own, callees, params):
         return f"c.{m.group(1)}.ensures" + (named(m.group(2), CLAUSES[callee]["ensures"]) if callee in CLAUSES else m.group(2))
 
     def changed(m):
-        names = params.get(callees.get(m.group(1)), [])
-        k = int(m.group(2))
-        return m.group(0)[: -len(m.group(2))] + names[k] if k < len(names) else m.group(0)
+        names, path = params.get(callees.get(m.group(1)), []), re.findall(r"\d", m.group(3))
+        k = 0
+        while k < len(path) and path[k] == "1":
+            k += 1
+        left = "".join("." + d for d in path[k + 1 :])
+        return f"c.{m.group(1)}.{m.group(2)}.{names[k]}{left}" if k < len(names) else m.group(0)
+
+    if len(own["requires"]) == 1 and own["requires"][0]:
+        body = re.sub(r"(?<!" + WORD + r")(?<!\.)c\.requires(?!" + WORD + ")", "c.requires." + own["requires"][0], body)
+
+    def lone(m):
+        labels = CLAUSES.get(callees.get(m.group(1)), {"ensures": []})["ensures"]
+        return m.group(0) + ("." + labels[0] if len(labels) == 1 and labels[0] else "")
+
+    body = re.sub(r"(?<!" + WORD + r")(?<!\.)c\.(" + WORD + r"+)\.ensures(?!" + WORD + ")", lone, body)
+
+    def ensured(m):
+        callee = callees.get(m.group(1))
+        return f"c.{m.group(1)}.ensures" + (named(m.group(2), CLAUSES[callee]["ensures"]) if callee in CLAUSES else m.group(2))
 
     body = re.sub(r"(?<!" + WORD + r")(?<!\.)c\.(" + WORD + r"+)\.ensures((?:\.\d+)+)", ensured, body)
-    return re.sub(r"(?<!" + WORD + r")(?<!\.)c\.(" + WORD + r"+)\.(?:new|auto)\.(\d+)", changed, body)
+    return re.sub(r"(?<!" + WORD + r")(?<!\.)c\.(" + WORD + r"+)\.(new|auto)((?:\.\d)+)", changed, body)
 
 
 def flat(body, steps):
@@ -331,6 +347,7 @@ def turn(crate, path, known, said):
             body = taken_apart(body, asked)
         if len(asked) == 1 and asked[0]:
             body = f"record {{ {asked[0]} = {body.strip()} }}"
+        body = body.replace("c.well-formed", "c.well_formed")
         body = re.sub(r"c\.enum_told(?:-\d+)?\.given\.1", "c.in_default.is", body)
         if body.strip() in PLAIN and not opened:
             continue

@@ -10,10 +10,12 @@ exported C names, strings, inputs and outputs keep their names. Where a definiti
 import os
 import re
 
+# Names that no line of its own declares: a constructor beside others, and parameters.
+BESIDE = ["maximumPeers", "regionBefore", "regionAfter", "hubAfter", "outAfter", "heldAfter", "tableAfter", "recordsAfter"]
+
 NAME = r"[A-Za-zℕℤ_][A-Za-z0-9_'ℕℤ-]*[A-Za-z0-9_'ℕℤ]|[A-Za-zℕℤ_]"
 DECLARED = re.compile(r"^ *(?:pub |abbrev |unfoldable )*(" + NAME + r")(?: \{[^}]*\}| \([^)]*\))* *: ")
 HEADED = re.compile(r"^ *(?:pub |abbrev |unfoldable )*(?:data|record) (" + NAME + r")")
-BOUND = re.compile(r"\blet (" + NAME + r")\b")
 
 
 def files(*endings):
@@ -75,6 +77,7 @@ def renaming(found):
         for old in olds - {keep}:
             if old != new or found[old] & found[keep]:
                 to[old] = new + "_lem"
+    to |= {old: snake(old) for old in BESIDE}
     return {old: new for old, new in to.items() if old != new}
 
 

@@ -68,7 +68,7 @@ stored_sound : (s : Settings) (who : ℕ) (slot : Slot) (r : Register) (x : ℕ)
     → Leaves (Sound s who) slot (register_stored who slot r x)
 unfolding register_stored
 stored_sound s who slot Register.identity x c e = e
-stored_sound s who slot Register.maximumPeers x c e = e
+stored_sound s who slot Register.maximum_peers x c e = e
 stored_sound s who slot Register.interrupt_control x c e =
     let u = used s slot c e in
     let f = u.fixed in
@@ -146,7 +146,7 @@ written_memory s p at w x =
 stored_memory : (who : ℕ) (slot : Slot) (r : Register) (x : ℕ) (on : Bool) → Tracks on slot → Leaves (Tracks on) slot (register_stored who slot r x)
 unfolding register_stored memory_on
 stored_memory who slot Register.identity x on e = e
-stored_memory who slot Register.maximumPeers x on e = e
+stored_memory who slot Register.maximum_peers x on e = e
 stored_memory who slot Register.interrupt_control x on e = e
 stored_memory who slot Register.doorbell x on e = (e, λ later f. f)
 stored_memory who slot Register.state x on e = announces_leaves (Tracks on) who slot slot _ e

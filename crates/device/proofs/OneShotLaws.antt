@@ -259,7 +259,7 @@ stored_first : (who : ℕ) (slot : Slot) (r : Register) (x : ℕ)
     → First (Kept slot.peer (turns_register 0 1 slot.peer r x) (turns_register 1 0 slot.peer r x)) slot (register_stored who slot r x)
 unfolding register_stored turns_register
 stored_first who slot Register.identity x = λ h m. unturned _ _ refl h
-stored_first who slot Register.maximumPeers x = λ h m. unturned _ _ refl h
+stored_first who slot Register.maximum_peers x = λ h m. unturned _ _ refl h
 stored_first who slot Register.interrupt_control x = λ h m. turned slot.peer.interrupt (bit_and x 1) (and_le_r x 1) h
 stored_first who slot Register.doorbell x = (λ h m. unturned _ _ refl h, tt)
 stored_first who slot Register.state x = announces_first _ who slot _ (λ h m. unturned _ _ refl h)

@@ -148,7 +148,7 @@ stored_told : (b who : ℕ) (slot : Slot) (r : Register) (x : ℕ) (w : World) �
     → replay b w (sent_by b who slot.peer.state r x) ≡ told_of b (run_all b w (reach b false (register_stored who slot r x)))
 unfolding replay tell sent_by register_stored reach run_all deliveries_to
 stored_told b who slot Register.identity x w same = refl
-stored_told b who slot Register.maximumPeers x w same = refl
+stored_told b who slot Register.maximum_peers x w same = refl
 stored_told b who slot Register.interrupt_control x w same = refl
 stored_told b who slot Register.doorbell x w same =
     by_equal (rung_peer x).0 b

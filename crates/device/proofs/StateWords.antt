@@ -160,7 +160,7 @@ module _ (s : Settings) (who : ℕ) (slot : Slot) (region : List ℕ) (a : Accep
   stored_words : (r : Register) (x : ℕ) → Worded s region who slot → Words s who slot region (register_stored who slot r x)
   unfolding register_stored
   stored_words Register.identity x h = record { others = λ i j d l k. refl; own = h }
-  stored_words Register.maximumPeers x h = record { others = λ i j d l k. refl; own = h }
+  stored_words Register.maximum_peers x h = record { others = λ i j d l k. refl; own = h }
   stored_words Register.interrupt_control x h = record { others = λ i j d l k. refl; own = h }
   stored_words Register.doorbell x h = record { others = λ i j d l k. refl; own = (h, λ later q. q) }
   stored_words Register.state x h = announced (with_peer slot (with_state slot.peer (state_value x)))

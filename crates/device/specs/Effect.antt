@@ -82,7 +82,7 @@ state_value value = bit_and value 0xFFFFFFFF
 -- a store to a register (R45): at ID, at Maximum Peers and where none is, nothing. Interrupt Control has bit 0 only.
 unfoldable pub register_stored : ℕ → Slot → Register → ℕ → List Operation
 register_stored who slot Register.identity value = []
-register_stored who slot Register.maximumPeers value = []
+register_stored who slot Register.maximum_peers value = []
 register_stored who slot Register.interrupt_control value =
     Operation.own (with_peer slot (with_interrupt slot.peer (bit_and value 1))) ∷ []
 register_stored who slot Register.doorbell value = Operation.ring_one (rung_peer value) (rung_vector value) ∷ []

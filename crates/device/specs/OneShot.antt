@@ -46,7 +46,7 @@ interrupts (Observation.interrupted d ∷ os) = suc (interrupts os)
 -- Whether a store of a value to a register turns Interrupt Control, which takes bit 0 of the value, from `old` to `new`.
 unfoldable pub turns_register : (old new : ℕ) → Peer → Register → ℕ → Bool
 turns_register old new p Register.identity x = false
-turns_register old new p Register.maximumPeers x = false
+turns_register old new p Register.maximum_peers x = false
 turns_register old new p Register.interrupt_control x = eqb p.interrupt old && eqb (bit_and x 1) new
 turns_register old new p Register.doorbell x = false
 turns_register old new p Register.state x = false

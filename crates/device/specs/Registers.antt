@@ -5,12 +5,12 @@ use Rattle.device.specs.declared.Peer.{Peer}
 use Rattle.device.specs.declared.Settings.{Settings}
 
 pub data Register : Type 0 where
-  identity maximumPeers interrupt_control doorbell state none : Register
+  identity maximum_peers interrupt_control doorbell state none : Register
 
 unfoldable pub register_at : ℕ → Register
 register_at at =
     cond (eqb at 0x00) identity
-    (cond (eqb at 0x04) maximumPeers
+    (cond (eqb at 0x04) maximum_peers
     (cond (eqb at 0x08) interrupt_control (cond (eqb at 0x0C) doorbell (cond (eqb at 0x10) state none))))
 
 -- Command bit 1, Memory Space: the register region and the MSI-X region answer
@@ -24,7 +24,7 @@ unmapped = 0xFFFFFFFF
 -- R45: where no register is, 0 is read, and so it is at the Doorbell
 unfoldable pub register_value : Settings → ℕ → Peer → Register → ℕ
 register_value s who p identity = who
-register_value s who p maximumPeers = s.peers
+register_value s who p maximum_peers = s.peers
 register_value s who p interrupt_control = p.interrupt
 register_value s who p doorbell = 0
 register_value s who p state = p.state

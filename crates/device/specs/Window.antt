@@ -53,7 +53,7 @@ word_sent who old new = cond (changes old new) (Item.word who new ∷ []) []
 -- what a store to a register sends to B, given the State of the peer that stores
 unfoldable pub sent_by : ℕ → ℕ → ℕ → Register → ℕ → List Item
 sent_by b who old Register.identity x = []
-sent_by b who old Register.maximumPeers x = []
+sent_by b who old Register.maximum_peers x = []
 sent_by b who old Register.interrupt_control x = []
 sent_by b who old Register.doorbell x = cond (eqb (rung_peer x).0 b) (Item.bell (rung_vector x) ∷ []) []
 sent_by b who old Register.state x = word_sent who old (state_value x)

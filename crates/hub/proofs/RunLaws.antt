@@ -143,7 +143,7 @@ pub nothing_stored : (who : ℕ) (slot : Slot) (at x : ℕ) → (at ≡ 0x08 →
 unfolding register_at register_stored
 nothing_stored who slot at x a b c = rw (ne_eqb at 0x08 a, ne_eqb at 0x0C b, ne_eqb at 0x10 c) (by (eqb at 0x00) (eqb at 0x04))
   where
-    by : (p q : Bool) → register_stored who slot (cond p Register.identity (cond q Register.maximumPeers Register.none)) x ≡ []
+    by : (p q : Bool) → register_stored who slot (cond p Register.identity (cond q Register.maximum_peers Register.none)) x ≡ []
     by true q = refl
     by false true = refl
     by false false = refl

@@ -57,23 +57,23 @@ numbers n v s r o base protocol vendor subsystem =
 
 -- Set-up, in words as many as its numbers ask for. Every refusal leaves all words zero: words of another length could hold a sound
 -- hub of another size.
-pub record SetsUp (before after regionBefore regionAfter : List ℕ) (s : Settings) (r : Reply) : Type 0 where
-  pub reply : r ≡ record { number = set_up_refusal (eqb (length before) (hub_words s.peers s.vectors)) s regionBefore; value = 0 }
+pub record SetsUp (before after region_before region_after : List ℕ) (s : Settings) (r : Reply) : Type 0 where
+  pub reply : r ≡ record { number = set_up_refusal (eqb (length before) (hub_words s.peers s.vectors)) s region_before; value = 0 }
   pub hub : hub_of after ≡ hub_after_set_up r.number s
-  pub region : regionAfter ≡ region_after_set_up r.number regionBefore
+  pub region : region_after ≡ region_after_set_up r.number region_before
   pub zero : (r.number ≡ 0 → ⊥) → after ≡ replicate (length before) 0
 
 -- Operations run on the hub and the region: what they leave, and their deliveries in order.
-pub record Runs (hub after region regionAfter : List ℕ) (id : ℕ) (operations : List Operation) (d : Deliveries) : Type 0 where
-  pub left : world (hub_of after) regionAfter ≡ (run_all id (world (hub_of hub) region) operations).world
+pub record Runs (hub after region region_after : List ℕ) (id : ℕ) (operations : List Operation) (d : Deliveries) : Type 0 where
+  pub left : world (hub_of after) region_after ≡ (run_all id (world (hub_of hub) region) operations).world
   pub list : Lists (hub_of after) d (run_all id (world (hub_of hub) region) operations).deliveries
 
 -- A call that is lent the region and a delivery table, whose length is among the call's arguments: hub and region afterwards are
 -- the step's, the list is the step's deliveries in order, its records made from the hub afterwards, and a refusal leaves each word
 -- as it was.
-pub record Serves (hub after region regionAfter : List ℕ) (c : Call) (r : Served) : Type 0 where
+pub record Serves (hub after region region_after : List ℕ) (c : Call) (r : Served) : Type 0 where
   pub reply : r.reply ≡ reply_of (step (world (hub_of hub) region) c)
-  pub left : world (hub_of after) regionAfter ≡ (step (world (hub_of hub) region) c).world
+  pub left : world (hub_of after) region_after ≡ (step (world (hub_of hub) region) c).world
   pub list : Lists (hub_of after) r.list (step (world (hub_of hub) region) c).deliveries
   pub kept : (r.reply.number ≡ 0 → ⊥) → after ≡ hub
 
@@ -87,7 +87,7 @@ pub record Restarts (hub after : List ℕ) (room records id connected : ℕ) (r 
   pub changed : r.number ≡ 0 → r.changed ≡ changes (slot_at (hub_of hub) id).peer.state 0
 
 -- The rest of such a call: nothing where its number is a refusal's, else the entry and the rings.
-pub record Told (hub after region regionAfter : List ℕ) (id : ℕ) (own : Restarted) (r : Served) : Type 0 where
+pub record Told (hub after region region_after : List ℕ) (id : ℕ) (own : Restarted) (r : Served) : Type 0 where
   pub reply : r.reply ≡ record { number = own.number; value = 0 }
-  pub refused : (own.number ≡ 0 → ⊥) → (after ≡ hub) × (regionAfter ≡ region) × (r.list.count ≡ 0)
-  pub runs : own.number ≡ 0 → Runs hub after region regionAfter id (entered id 0 own.changed) r.list
+  pub refused : (own.number ≡ 0 → ⊥) → (after ≡ hub) × (region_after ≡ region) × (r.list.count ≡ 0)
+  pub runs : own.number ≡ 0 → Runs hub after region region_after id (entered id 0 own.changed) r.list

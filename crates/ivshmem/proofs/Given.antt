@@ -1,7 +1,6 @@
 -- The settings that a host's struct gives, number by number. Two numbers that are swapped in the definition and in the code alike
 -- would meet every promise.
 use mathlib.Core.Path.{◌≡◌, refl}
-use Rattle.device.specs.declared.Settings.{Settings}
 use Rattle.ivshmem.specs.Promises.{given}
 
 pub each_in_its_place :

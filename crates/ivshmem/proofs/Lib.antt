@@ -1,4 +1,2 @@
 pub mod Given
-pub mod LentTable
-pub mod Restarting
 pub mod TableLaws

@@ -48,7 +48,7 @@ module _ (who : ℕ) (w : World) (some : 0 < w.hub.settings.peers) where
   few_stored : (slot : Slot) (r : Register) (value : ℕ) → length (run_all who w (register_stored who slot r value)).deliveries ≤ w.hub.settings.peers
   unfolding register_stored run_all run
   few_stored slot Register.identity value = omega arith
-  few_stored slot Register.maximumPeers value = omega arith
+  few_stored slot Register.maximum_peers value = omega arith
   few_stored slot Register.interrupt_control value = omega arith
   few_stored slot Register.doorbell value = rw append-nil (le_trans (ring_kept w.hub (rung_peer value) (rung_vector value)).few some)
   few_stored slot Register.state value = few_announced slot _
@@ -113,17 +113,17 @@ disconnect_room = roomy Act.disconnect (λ n. refl) (λ h region id n some. few_
 refused_nothing : (w : World) (c : Call) → ((step w c).number ≡ 0 → ⊥) → (step w c).deliveries ≡ []
 refused_nothing w c h = ap (λ (o : Outcome). o.deliveries) (refused_changes_nothing w c (λ z. h (step_number w c ∙ z)))
 
-module _ (hub after region regionAfter : List ℕ) (id : ℕ) (act : ℕ → Act) (r : Served) where
+module _ (hub after region region_after : List ℕ) (id : ℕ) (act : ℕ → Act) (r : Served) where
   -- what `hand_out` asks of the call's list, for a table of n records
-  pub can_hand_out : (n : ℕ) → Roomy act → Serves hub after region regionAfter (call id (act n)) r
+  pub can_hand_out : (n : ℕ) → Roomy act → Serves hub after region region_after (call id (act n)) r
       → (r.list.count ≤ length r.list.targets) × (r.list.count ≤ n)
   can_hand_out n roomy s = (count_fits (hub_of after) r.list _ s.list, rw s.list.count (roomy (hub_of hub) region id n))
 
-  pub hands_out : (table tableAfter : List Delivery) (count : ℕ) → Serves hub after region regionAfter (call id (act (length table))) r
-      → (tableAfter ≡ handed_out (listed (hub_of after) r.list) table) × (count ≡ r.list.count)
-      → HandsOut hub after region regionAfter table tableAfter id act (record { reply = r.reply; count = count })
+  pub hands_out : (table table_after : List Delivery) (count : ℕ) → Serves hub after region region_after (call id (act (length table))) r
+      → (table_after ≡ handed_out (listed (hub_of after) r.list) table) × (count ≡ r.list.count)
+      → HandsOut hub after region region_after table table_after id act (record { reply = r.reply; count = count })
   unfolding handed_out
-  hands_out table tableAfter count s e =
+  hands_out table table_after count s e =
       let deliveries = s.list.deliveries in
       record {
         reply = s.reply;

@@ -21,13 +21,13 @@ given s =
 
 -- A call with the table lent. Reply, hub and region are the step's; its deliveries are written over the table from the front, and
 -- their number is returned. A refusal leaves each word and each record as it was.
-pub record HandsOut (hub after region regionAfter : List ℕ) (records recordsAfter : List Delivery) (id : ℕ) (act : ℕ → Act) (r : Counted) :
+pub record HandsOut (hub after region region_after : List ℕ) (records records_after : List Delivery) (id : ℕ) (act : ℕ → Act) (r : Counted) :
     Type 0 where
   pub reply : r.reply ≡ reply_of (step (world (hub_of hub) region) (call id (act (length records))))
-  pub left : world (hub_of after) regionAfter ≡ (step (world (hub_of hub) region) (call id (act (length records)))).world
-  pub table : recordsAfter ≡ handed_out (step (world (hub_of hub) region) (call id (act (length records)))).deliveries records
+  pub left : world (hub_of after) region_after ≡ (step (world (hub_of hub) region) (call id (act (length records)))).world
+  pub table : records_after ≡ handed_out (step (world (hub_of hub) region) (call id (act (length records)))).deliveries records
   pub count : r.count ≡ length (step (world (hub_of hub) region) (call id (act (length records)))).deliveries
-  pub kept : (r.reply.number ≡ 0 → ⊥) → (after ≡ hub) × (recordsAfter ≡ records)
+  pub kept : (r.reply.number ≡ 0 → ⊥) → (after ≡ hub) × (records_after ≡ records)
 
 -- the section question's answer in numbers
 abbrev pub in_numbers : SectionReply → SectionNumbers

@@ -1,5 +1,7 @@
 // The calls of the library that a host links, one function for each; crates/ivshmem_c exports them. Numbers are plain and memory is
 // lent. The calls that may ring other peers are here; host.rt and guest.rt have the others.
+#![tactic(auto)]
+
 ghost use Rattle.std.specs.Prelude.{ℕ};
 ghost use Rattle.device.specs.Call.{Act};
 ghost use Rattle.ivshmem.specs.Promises.{HandsOut};
@@ -11,7 +13,7 @@ pub mod host;
 
 // The numbers that a hub is set up with, as a host hands them in.
 #[repr(C)]
-#[derive(Drop)]
+#[derive(Clone, Copy)]
 pub struct SetUpNumbers {
     pub peers: u64,
     pub vectors: u64,
@@ -26,7 +28,7 @@ pub struct SetUpNumbers {
 
 // An answer, and the number of records written, which is for the host alone.
 #[repr(C)]
-#[derive(Drop)]
+#[derive(Clone, Copy)]
 pub struct Counted {
     pub reply: Reply,
     pub count: usize,
@@ -34,7 +36,7 @@ pub struct Counted {
 
 // The answer to the section question, in numbers: the kind, the owner's id where there is one, and 1 where the peer may store.
 #[repr(C)]
-#[derive(Drop)]
+#[derive(Clone, Copy)]
 pub struct SectionNumbers {
     pub reply: Reply,
     pub kind: u32,

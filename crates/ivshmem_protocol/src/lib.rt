@@ -1,5 +1,7 @@
 // The library with which a host reads what the server of the older ivshmem device sends, or is that server: numbers are plain and
 // memory is lent.
+#![tactic(auto)]
+
 ghost use Rattle.std.specs.Prelude.{◌≡◌, length};
 ghost use Rattle.ivshmem_protocol.specs.Promises.{ReadsInNumbers, numbers_of};
 ghost use Rattle.server.specs.Serving.{Serves, started, join, leave};

@@ -61,8 +61,8 @@ region_kept_lem : (w : World) (c : Call) → lent_to c.act ≡ Lent.nothing → 
 unfolding step
 region_kept_lem w c e = kept_by (refusal w c) w c (effect_keeps w c.who c.act e)
 
-writes_same : {out outAfter a b : List ℕ} {n : ℕ} → a ≡ b → Writes out outAfter a n → Writes out outAfter b n
-writes_same {out} {outAfter} {a} {b} {n} e w = rw e at w
+writes_same : {out out_after a b : List ℕ} {n : ℕ} → a ≡ b → Writes out out_after a n → Writes out out_after b n
+writes_same {out} {out_after} {a} {b} {n} e w = rw e at w
 
 replied_same : (n : ℕ) (a b : List ℕ) → (n ≡ 0 → a ≡ b) → replied n a ≡ replied n b
 unfolding replied
@@ -78,10 +78,10 @@ number_one [] e = absurd (omega arith)
 number_one (x ∷ []) e = omega arith
 number_one (x ∷ y ∷ l) e = absurd (omega arith)
 
-module _ (hub region out outAfter : List ℕ) (c : Call) (n : ℕ) where
+module _ (hub region out out_after : List ℕ) (c : Call) (n : ℕ) where
   -- reads
-  pub reads_answer : (r : Reply) → reads_only c.act ≡ true → Promises.Answers hub c r → Writes out outAfter (replied r.number (valued r.value)) n
-      → Answers hub hub region region out outAfter (Request.reads c) n
+  pub reads_answer : (r : Reply) → reads_only c.act ≡ true → Promises.Answers hub c r → Writes out out_after (replied r.number (valued r.value)) n
+      → Answers hub hub region region out out_after (Request.reads c) n
   unfolding answer
   reads_answer r only a w =
       let e = a region in
@@ -92,7 +92,7 @@ module _ (hub region out outAfter : List ℕ) (c : Call) (n : ℕ) where
 
   -- loads of one byte: only an accepted one's byte is written
   pub loads_answer : (before after : List ℕ) (r : Reply) → reads_only c.act ≡ true → length after ≡ 1 → Loads hub region before after c r
-      → Writes out outAfter (replied r.number (valued (get_or after 0 0))) n → Answers hub hub region region out outAfter (Request.loads c) n
+      → Writes out out_after (replied r.number (valued (get_or after 0 0))) n → Answers hub hub region region out out_after (Request.loads c) n
   unfolding answer
   loads_answer before after r only one l w =
       let s = step (world (hub_of hub) region) c in
@@ -103,7 +103,7 @@ module _ (hub region out outAfter : List ℕ) (c : Call) (n : ℕ) where
 
   -- stores to the caller's own registers
   pub changes_answer : (after : List ℕ) (r : Reply) → lent_to c.act ≡ Lent.nothing → may_ring c.act ≡ false → Changes hub after c r
-      → Writes out outAfter (replied r.number (done [])) n → Answers hub after region region out outAfter (Request.does c) n
+      → Writes out out_after (replied r.number (done [])) n → Answers hub after region region out out_after (Request.does c) n
   unfolding answer
   changes_answer after r lent silent ch w =
       let s = step (world (hub_of hub) region) c in
@@ -117,10 +117,10 @@ module _ (hub region out outAfter : List ℕ) (c : Call) (n : ℕ) where
       }
 
   -- shared stores
-  pub stores_answer : (regionAfter : List ℕ) (r : Reply) → may_ring c.act ≡ false → Stores hub region regionAfter c r
-      → Writes out outAfter (replied r.number (done [])) n → Answers hub hub region regionAfter out outAfter (Request.does c) n
+  pub stores_answer : (region_after : List ℕ) (r : Reply) → may_ring c.act ≡ false → Stores hub region region_after c r
+      → Writes out out_after (replied r.number (done [])) n → Answers hub hub region region_after out out_after (Request.does c) n
   unfolding answer
-  stores_answer regionAfter r silent st w =
+  stores_answer region_after r silent st w =
       let s = step (world (hub_of hub) region) c in
       let e : replied r.number (done []) ≡ replied s.number (done s.deliveries) =
       ap (λ (x : Reply). replied x.number (done [])) st.reply ∙ ap (λ (ds : List Delivery). replied s.number (done ds))
@@ -128,9 +128,9 @@ module _ (hub region out outAfter : List ℕ) (c : Call) (n : ℕ) where
       record { left = st.region; written = writes_same e w }
 
   -- the calls that may ring, with a table for all peers
-  module _ (after regionAfter : List ℕ) (r : Served) (sv : Serves hub after region regionAfter c r) where
-    pub served_answer : Writes out outAfter (replied r.reply.number (done (listed (hub_of after) r.list))) n
-        → Answers hub after region regionAfter out outAfter (Request.does c) n
+  module _ (after region_after : List ℕ) (r : Served) (sv : Serves hub after region region_after c r) where
+    pub served_answer : Writes out out_after (replied r.reply.number (done (listed (hub_of after) r.list))) n
+        → Answers hub after region region_after out out_after (Request.does c) n
     unfolding answer
     served_answer w =
         let s = step (world (hub_of hub) region) c in

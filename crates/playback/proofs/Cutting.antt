@@ -38,7 +38,7 @@ calls_are_feeding p now bytes written c = calls c
 
 pub calls_play : CallsPlay
 unfolding played answers
-calls_play log written hub region held out outAfter p r c e z =
+calls_play log written hub region held out out_after p r c e z =
     let f = calls c in
     let a : answers log ≡ written = ap (λ (x : Fed Player). x.written) f in
     let m : (fed_all fed fresh log).machine ≡ player_in hub region held p = ap (λ (x : Fed Player). x.machine) f in

@@ -76,10 +76,10 @@ module _ (p₀ : Player) (hub region held piece out₀ out : List ℕ) (p : Prog
         same = same_room;
       }
 
-  pub fed_more : (hubAfter regionAfter heldAfter rest : List ℕ) (next : Progress) (n : ℕ) → i < length piece → longest ≤ length out₀ - at
-      → Goes hubAfter regionAfter heldAfter (take (length out - at) (drop at out)) rest next n (fed (player_in hub region held p) (get_or piece i 0))
-      → FedSoFar p₀ hubAfter regionAfter heldAfter piece out₀ (put_mid at (length out - at) out rest) next (i + 1) (at + n)
-  fed_more hubAfter regionAfter heldAfter rest next n l room g =
+  pub fed_more : (hub_after region_after held_after rest : List ℕ) (next : Progress) (n : ℕ) → i < length piece → longest ≤ length out₀ - at
+      → Goes hub_after region_after held_after (take (length out - at) (drop at out)) rest next n (fed (player_in hub region held p) (get_or piece i 0))
+      → FedSoFar p₀ hub_after region_after held_after piece out₀ (put_mid at (length out - at) out rest) next (i + 1) (at + n)
+  fed_more hub_after region_after held_after rest next n l room g =
       let f = fed_all fed p₀ (take i piece) in
       let b = get_or piece i 0 in
       let q = player_in hub region held p in
@@ -92,7 +92,7 @@ module _ (p₀ : Player) (hub region held piece out₀ out : List ℕ) (p : Prog
       let part : length (take (length out - at) (drop at out)) ≡ length out₀ - at = simp (length-take, length-drop) (omega (arith, same_room)) in
       let rest-room : length out₀ - at - length (fed q b).written ≡ length out₀ - (at + n) = omega (arith, g.written.count) in
       let more : taken_within (length out₀ - at) q (drop i piece)
-      ≡ suc (taken_within (length out₀ - (at + n)) (player_in hubAfter regionAfter heldAfter next) (drop (i + 1) piece)) =
+      ≡ suc (taken_within (length out₀ - (at + n)) (player_in hub_after region_after held_after next) (drop (i + 1) piece)) =
       rw (drop-cons piece i 0 l, taken_one (length out₀ - at) q b (drop (suc i) piece) room, rest-room, ← g.player, ← (add-one i)) in
       record {
         within = omega arith;

@@ -21,24 +21,24 @@ use Rattle.playback.specs.Promises.{Answers, Goes, Lent, Writes, world_in, playe
 abbrev pub in_use : (words bytes : ℕ) → Bool → Progress
 in_use words bytes stopped = record { words = words; bytes = bytes; held = 0; stopped = stopped }
 
-module _ (hub region held out outAfter : List ℕ) (words bytes n : ℕ) where
-  pub unknown_goes : Lent hub region held (in_use words bytes true) → Writes out outAfter (0x85 ∷ []) n
-      → Goes hub region held out outAfter (in_use words bytes true) n (after (answer (world_in hub region words bytes) Request.unknown))
+module _ (hub region held out out_after : List ℕ) (words bytes n : ℕ) where
+  pub unknown_goes : Lent hub region held (in_use words bytes true) → Writes out out_after (0x85 ∷ []) n
+      → Goes hub region held out out_after (in_use words bytes true) n (after (answer (world_in hub region words bytes) Request.unknown))
   unfolding answer
   unknown_goes lent w = record { player = refl; written = w; lent = lent }
 
   -- the parts in use were lent to a call, and came back
-  pub call_goes : (hubAfter regionAfter : List ℕ) (q : Request) → (answer (world_in hub region words bytes) q).stops ≡ false
-      → Lent hub region held (in_use words bytes false) → length hubAfter ≡ words → length regionAfter ≡ bytes
-      → Answers (take words hub) hubAfter (take bytes region) regionAfter out outAfter q n
-      → Goes (hubAfter ++ drop words hub) (regionAfter ++ drop bytes region) held out outAfter (in_use words bytes false) n
+  pub call_goes : (hub_after region_after : List ℕ) (q : Request) → (answer (world_in hub region words bytes) q).stops ≡ false
+      → Lent hub region held (in_use words bytes false) → length hub_after ≡ words → length region_after ≡ bytes
+      → Answers (take words hub) hub_after (take bytes region) region_after out out_after q n
+      → Goes (hub_after ++ drop words hub) (region_after ++ drop bytes region) held out out_after (in_use words bytes false) n
       (after (answer (world_in hub region words bytes) q))
-  call_goes hubAfter regionAfter q on lent nh nr a =
+  call_goes hub_after region_after q on lent nh nr a =
       record {
-        player = rw (take_at hubAfter (drop words hub) words nh, take_at regionAfter (drop bytes region) bytes nr, on)
+        player = rw (take_at hub_after (drop words hub) words nh, take_at region_after (drop bytes region) bytes nr, on)
             (ap (λ (w : World). player w [] false) a.left);
         written = a.written;
-        lent = lent_back hub region held _ hubAfter regionAfter nh nr lent;
+        lent = lent_back hub region held _ hub_after region_after nh nr lent;
       }
 
 -- one byte: of a stopped player, of a record that is not whole with it, and of one that is
@@ -77,9 +77,9 @@ module _ (hub region held out : List ℕ) (p : Progress) (byte : ℕ) (lent : Le
             };
       }
 
-  pub answered_goes : (hubAfter regionAfter outAfter : List ℕ) (next : Progress) (n : ℕ) → p.stopped ≡ false → record_length (get_or more 0 0) ≤ p.held + 1
-      → ((h : List ℕ) → length h ≡ longest_record → Goes hubAfter regionAfter h out outAfter next n
+  pub answered_goes : (hub_after region_after out_after : List ℕ) (next : Progress) (n : ℕ) → p.stopped ≡ false → record_length (get_or more 0 0) ≤ p.held + 1
+      → ((h : List ℕ) → length h ≡ longest_record → Goes hub_after region_after h out out_after next n
       (after (answer (world_in hub region p.words p.bytes) (request_of (kind_of (take (p.held + 1) more)) (take (p.held + 1) more)))))
-      → Goes hubAfter regionAfter more out outAfter next n (fed (player_in hub region held p) byte)
-  answered_goes hubAfter regionAfter outAfter next n e l g =
+      → Goes hub_after region_after more out out_after next n (fed (player_in hub region held p) byte)
+  answered_goes hub_after region_after out_after next n e l g =
       rw (e, byte_answered (world_in hub region p.words p.bytes) held p.held byte lent.few l) (g more (simp length-set lent.held_length))

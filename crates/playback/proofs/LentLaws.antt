@@ -47,9 +47,9 @@ module _ (hub region held : List ℕ) (p : Progress) where
   inside_is lent = let l : p.held ≤ length held = omega (arith, lent.few) in rw (length-take-le p.held held l)
 
   -- the parts in use were lent on, and came back
-  pub lent_back : (hubAfter regionAfter : List ℕ) → length hubAfter ≡ p.words → length regionAfter ≡ p.bytes → Lent hub region held p
-      → Lent (hubAfter ++ drop p.words hub) (regionAfter ++ drop p.bytes region) held p
-  lent_back hubAfter regionAfter nh nr lent =
+  pub lent_back : (hub_after region_after : List ℕ) → length hub_after ≡ p.words → length region_after ≡ p.bytes → Lent hub region held p
+      → Lent (hub_after ++ drop p.words hub) (region_after ++ drop p.bytes region) held p
+  lent_back hub_after region_after nh nr lent =
       record {
         hub_length = simp (length-append, length-drop) (omega (arith, lent.words, lent.hub_length));
         region_length = simp (length-append, length-drop) (omega (arith, lent.bytes, lent.region_length));

@@ -1,5 +1,5 @@
 -- When a log's set-up is taken.
-use Prim.Native.Nat.{ℕ, ◌+◌, ◌*◌, ◌≤◌}
+use Prim.Native.Nat.{ℕ, ◌*◌, ◌≤◌}
 use mathlib.Core.Bool.{Bool, true, false, cond}
 use mathlib.Core.List.{List, [], ◌∷◌, ◌++◌}
 use mathlib.Core.Path.{◌≡◌, refl, ap, ◌∙◌}
@@ -59,32 +59,32 @@ empty_hub = rw (every_false (leb 0 max_peers ∷ leb 0 max_vectors ∷ eqb 0 10 
 unfoldable pub without : Progress
 without = record { words = 0; bytes = 0; held = 0; stopped = false }
 
-module _ (hub region held out outAfter : List ℕ) (s : Settings) (w : World) (n : ℕ) where
+module _ (hub region held out out_after : List ℕ) (s : Settings) (w : World) (n : ℕ) where
   -- a refused set-up leaves no hub
-  pub refused_goes : Lent hub region held without → set_up_number s ≡ 1 → Writes out outAfter (refused_by 1) n
-      → Goes hub region held out outAfter without n (after (answer w (Request.set_up s)))
+  pub refused_goes : Lent hub region held without → set_up_number s ≡ 1 → Writes out out_after (refused_by 1) n
+      → Goes hub region held out out_after without n (after (answer w (Request.set_up s)))
   unfolding answer replied without
   refused_goes lent e ws = record { player = rw (e, empty_hub); written = rw e ws; lent = lent }
 
   -- an accepted one leaves a fresh hub in as many words, and a zero region in as many bytes, as it asks for
-  pub taken_goes : (words bytes : ℕ) (hubAfter regionAfter : List ℕ) (r : Reply) → (accepted s ≡ true) × (total s ≤ max_total)
+  pub taken_goes : (words bytes : ℕ) (hub_after region_after : List ℕ) (r : Reply) → (accepted s ≡ true) × (total s ≤ max_total)
       → words ≡ hub_words s.peers s.vectors → bytes ≡ total s
       → Lent hub region held (record { words = words; bytes = bytes; held = 0; stopped = false })
-      → length hubAfter ≡ words → length regionAfter ≡ bytes
-      → SetsUp (take words hub) hubAfter (take bytes region) regionAfter s r → Writes out outAfter (replied r.number (done [])) n
-      → Goes (hubAfter ++ drop words hub) (regionAfter ++ drop bytes region) held out outAfter
+      → length hub_after ≡ words → length region_after ≡ bytes
+      → SetsUp (take words hub) hub_after (take bytes region) region_after s r → Writes out out_after (replied r.number (done [])) n
+      → Goes (hub_after ++ drop words hub) (region_after ++ drop bytes region) held out out_after
       (record { words = words; bytes = bytes; held = 0; stopped = false }) n (after (answer w (Request.set_up s)))
   unfolding answer start
-  taken_goes words bytes hubAfter regionAfter r ok ew eb lent nh nr sv ws =
+  taken_goes words bytes hub_after region_after r ok ew eb lent nh nr sv ws =
       let room : length (take words hub) ≡ hub_words s.peers s.vectors = length-take-le words hub lent.words ∙ ew in
       let all : length (take bytes region) ≡ total s = length-take-le bytes region lent.bytes ∙ eb in
       let number : r.number ≡ 0 = ap (λ (x : Reply). x.number) sv.reply ∙ rw (eq-eqb _ _ room) (no_refusal s (take bytes region) ok.0 all) in
       let e : set_up_number s ≡ 0 = taken s ok.0 (le-leb _ _ ok.1) in
-      let h : hub_of (take words (hubAfter ++ drop words hub)) ≡ fresh_hub s = rw (take_at hubAfter (drop words hub) words nh) (sv.hub ∙ rw number) in
-      let g : take bytes (regionAfter ++ drop bytes region) ≡ replicate (total s) 0 =
-      rw (take_at regionAfter (drop bytes region) bytes nr) (sv.region ∙ rw (number, all)) in
+      let h : hub_of (take words (hub_after ++ drop words hub)) ≡ fresh_hub s = rw (take_at hub_after (drop words hub) words nh) (sv.hub ∙ rw number) in
+      let g : take bytes (region_after ++ drop bytes region) ≡ replicate (total s) 0 =
+      rw (take_at region_after (drop bytes region) bytes nr) (sv.region ∙ rw (number, all)) in
       record {
         player = rw (h, g, e);
         written = rw (e, ← number) ws;
-        lent = lent_back hub region held _ hubAfter regionAfter nh nr lent;
+        lent = lent_back hub region held _ hub_after region_after nh nr lent;
       }

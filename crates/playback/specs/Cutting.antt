@@ -20,10 +20,10 @@ CuttingChangesNothing = (pieces : List (List ℕ)) → played_in_pieces pieces �
 -- all that was taken, `written` all that was written to the front of the buffers.
 pub data Calls : (before : Player) (bytes written : List ℕ) (now : Player) → Type 0 where
   none : {p : Player} → Calls p [] [] p
-  more : {p now : Player} {hub region held piece out outAfter bytes written : List ℕ} {r : Report}
-      → Feeds p hub region held piece out outAfter r
+  more : {p now : Player} {hub region held piece out out_after bytes written : List ℕ} {r : Report}
+      → Feeds p hub region held piece out out_after r
       → Calls (player_in hub region held r.progress) bytes written now
-      → Calls p (take r.taken piece ++ bytes) (take r.written outAfter ++ written) now
+      → Calls p (take r.taken piece ++ bytes) (take r.written out_after ++ written) now
 
 -- What they write depends on the bytes alone: it is what the definition gives for them, and so is where the player stands.
 abbrev pub CallsAreFeeding : Type 0
@@ -32,8 +32,8 @@ CallsAreFeeding = (p now : Player) (bytes written : List ℕ) → Calls p bytes 
 -- From the start to the end of the input: what calls of `feed` wrote, with what `finish` writes, is what the log is played as.
 abbrev pub CallsPlay : Type 0
 CallsPlay =
-    (log written hub region held out outAfter : List ℕ) (p : Progress) (r : Report) → Calls fresh log written (player_in hub region held p)
-    → Ends hub region held out outAfter p r → r.number ≡ 0 → written ++ take r.written outAfter ≡ played log
+    (log written hub region held out out_after : List ℕ) (p : Progress) (r : Report) → Calls fresh log written (player_in hub region held p)
+    → Ends hub region held out out_after p r → r.number ≡ 0 → written ++ take r.written out_after ≡ played log
 
 -- A whole record, fed where none has begun, is answered.
 abbrev pub RecordsAreAnswered : Type 0

@@ -52,14 +52,14 @@ pub record Writes (before after written : List ℕ) (n : ℕ) : Type 0 where
   pub fits : n ≤ length before
 
 -- A request, on the hub and the region in use.
-pub record Answers (hub after region regionAfter out outAfter : List ℕ) (q : Request) (n : ℕ) : Type 0 where
-  pub left : world (hub_of after) regionAfter ≡ (answer (world (hub_of hub) region) q).world
-  pub written : Writes out outAfter (answer (world (hub_of hub) region) q).written n
+pub record Answers (hub after region region_after out out_after : List ℕ) (q : Request) (n : ℕ) : Type 0 where
+  pub left : world (hub_of after) region_after ≡ (answer (world (hub_of hub) region) q).world
+  pub written : Writes out out_after (answer (world (hub_of hub) region) q).written n
 
 -- What is fed leaves this player and is answered by these bytes; the memory is still lent with the new progress.
-pub record Goes (hub region held out outAfter : List ℕ) (p : Progress) (n : ℕ) (f : Fed Player) : Type 0 where
+pub record Goes (hub region held out out_after : List ℕ) (p : Progress) (n : ℕ) (f : Fed Player) : Type 0 where
   pub player : player_in hub region held p ≡ f.machine
-  pub written : Writes out outAfter f.written n
+  pub written : Writes out out_after f.written n
   pub lent : Lent hub region held p
 
 -- How many bytes of a piece are taken: all, or as many as come before the buffer has no room left for the longest answer.
@@ -69,10 +69,10 @@ taken_within room p (b ∷ bs) =
     cond (ltb room longest) 0 (suc (taken_within (room - length (fed p b).written) (fed p b).machine bs))
 
 -- A piece fed to a player, as far as it is taken.
-pub record Feeds (p : Player) (hub region held piece out outAfter : List ℕ) (r : Report) : Type 0 where
+pub record Feeds (p : Player) (hub region held piece out out_after : List ℕ) (r : Report) : Type 0 where
   pub number : r.number ≡ 0
   pub taken : r.taken ≡ taken_within (length out) p piece
-  pub goes : Goes hub region held out outAfter r.progress r.written (fed_all fed p (take r.taken piece))
+  pub goes : Goes hub region held out out_after r.progress r.written (fed_all fed p (take r.taken piece))
 
 -- 10 for memory of other lengths, or a progress that does not lie within it; then 11 for a buffer without room for the longest
 -- answer, in which no byte would be taken
@@ -81,18 +81,18 @@ refusal_of hub region held p room =
     first (row 10 (not (is_lent hub region held p)) ∷ row 11 (ltb room longest) ∷ [])
 
 -- A refused piece changes nothing.
-pub record Refuses (hub after region regionAfter held heldAfter out outAfter : List ℕ) (p : Progress) (r : Report) : Type 0 where
+pub record Refuses (hub after region region_after held held_after out out_after : List ℕ) (p : Progress) (r : Report) : Type 0 where
   pub hub_kept : after ≡ hub
-  pub region_kept : regionAfter ≡ region
-  pub held_kept : heldAfter ≡ held
-  pub out_kept : outAfter ≡ out
+  pub region_kept : region_after ≡ region
+  pub held_kept : held_after ≡ held
+  pub out_kept : out_after ≡ out
   pub progress : r.progress ≡ p
   pub taken : r.taken ≡ 0
   pub written : r.written ≡ 0
 
 -- The end of the input: what a player writes there, and nothing where it is refused.
-pub record Ends (hub region held out outAfter : List ℕ) (p : Progress) (r : Report) : Type 0 where
+pub record Ends (hub region held out out_after : List ℕ) (p : Progress) (r : Report) : Type 0 where
   pub number : r.number ≡ refusal_of hub region held p (length out)
   pub progress : r.progress ≡ p
   pub taken : r.taken ≡ 0
-  pub written : Writes out outAfter (cond (eqb r.number 0) (ending (player_in hub region held p)) []) r.written
+  pub written : Writes out out_after (cond (eqb r.number 0) (ending (player_in hub region held p)) []) r.written

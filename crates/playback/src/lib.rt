@@ -1,5 +1,7 @@
 // Plays a log: it is fed in pieces, cut anywhere, and its answers are written to a lent buffer. Hub, region and the bytes held of a
 // record that is not whole yet are lent too, and the rest of the progress goes in and comes back. No call copies the hub.
+#![tactic(auto)]
+
 mod answers;
 mod calls;
 mod numbers;
@@ -24,7 +26,7 @@ pub struct Progress {
 
 // The answer to a piece: a refusal's number or 0, the progress, the bytes taken of the piece, and the bytes written to the front of
 // the buffer.
-#[derive(Drop)]
+#[derive(Clone, Copy)]
 pub struct Report {
     pub number: u32,
     pub progress: Progress,
@@ -33,7 +35,7 @@ pub struct Report {
 }
 
 // What one byte leaves.
-#[derive(Drop)]
+#[derive(Clone, Copy)]
 struct Taken {
     progress: Progress,
     written: usize,

@@ -13,7 +13,7 @@ use Rattle.common.proofs.TestLaws.{and_left, and_right}
 use Rattle.reader.specs.declared.Message.TheVariants.{Version, Id, Memory, Vector, Extra, Disconnected}
 use Rattle.reader.specs.Records.{Record, record_in, without_descriptor, with_descriptor}
 use Rattle.reader.specs.Sizes.{ids}
-use Rattle.reader.specs.Steps.{Known, known, count, counted, Result, result, closes, is_id, id_of, is_version, is_memory}
+use Rattle.reader.specs.Steps.{Known, known, count, counted, Result, result_with, closes, is_id, id_of, is_version, is_memory}
 use Rattle.reader.specs.Steps.{version_step, id_step, memory_step, adds, removes, peers_step, read_record}
 
 -- the record at the front of nine bytes or more
@@ -26,14 +26,14 @@ record_front m xs h =
 -- All that a record can come to: it closes, or it is what the step that is due asks for.
 pub data Comes (vectors : ℕ) (k : Known) : Result → Type 0 where
   closing : Comes vectors k (closes k)
-  version : k.due ≡ 0 → Comes vectors k (result Version (known 1 k.own k.counts))
-  own : (id : ℕ) → k.due ≡ 1 → id < ids → Comes vectors k (result (Id id) (known 2 id k.counts))
-  memory : k.due ≡ 2 → Comes vectors k (result Memory (known 3 k.own k.counts))
+  version : k.due ≡ 0 → Comes vectors k (result_with Version (known 1 k.own k.counts))
+  own : (id : ℕ) → k.due ≡ 1 → id < ids → Comes vectors k (result_with (Id id) (known 2 id k.counts))
+  memory : k.due ≡ 2 → Comes vectors k (result_with Memory (known 3 k.own k.counts))
   vector : (id : ℕ) → k.due ≡ 3 → id < ids → count k id < vectors
-      → Comes vectors k (result (Vector id (count k id + 1)) (counted k id (count k id + 1)))
-  extra : (id : ℕ) → k.due ≡ 3 → id < ids → vectors ≤ count k id → Comes vectors k (result (Extra id (count k id)) k)
+      → Comes vectors k (result_with (Vector id (count k id + 1)) (counted k id (count k id + 1)))
+  extra : (id : ℕ) → k.due ≡ 3 → id < ids → vectors ≤ count k id → Comes vectors k (result_with (Extra id (count k id)) k)
   disconnected : (id : ℕ) → k.due ≡ 3 → id < ids → (id ≡ k.own → ⊥) → 0 < count k id
-      → Comes vectors k (result (Disconnected id) (counted k id 0))
+      → Comes vectors k (result_with (Disconnected id) (counted k id 0))
 
 -- one of two, by a test
 pub by_test : (P : Result → Type 0) (b : Bool) (x y : Result) → (b ≡ true → P x) → (b ≡ false → P y) → P (cond b x y)

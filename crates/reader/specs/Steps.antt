@@ -41,12 +41,12 @@ pub record Result : Type 0 where
   pub message : Message
   pub known : Known
 
-abbrev pub result : Message → Known → Result
-result m k = record { message = m; known = k }
+abbrev pub result_with : Message → Known → Result
+result_with m k = record { message = m; known = k }
 
 -- R88: our own id and the counts stay as they are
 abbrev pub closes : Known → Result
-closes k = result Closed (known closed_step k.own k.counts)
+closes k = result_with Closed (known closed_step k.own k.counts)
 
 -- the numbers that a record may have: the version 0, the ids 0 to 63, and -1 for the memory
 unfoldable pub is_version : ℤ → Bool
@@ -68,26 +68,26 @@ is_memory (negsuc n) = eqb n 0
 
 -- R83: first the version 0, without a descriptor
 unfoldable pub version_step : Known → Record → Result
-version_step k r = cond (is_version r.value && without_descriptor r) (result Version (known id_due k.own k.counts)) (closes k)
+version_step k r = cond (is_version r.value && without_descriptor r) (result_with Version (known id_due k.own k.counts)) (closes k)
 
 -- R84: then our own id, without one
 unfoldable pub id_step : Known → Record → Result
 id_step k r =
-    cond (is_id r.value && without_descriptor r) (result (Id (id_of r.value)) (known memory_due (id_of r.value) k.counts)) (closes k)
+    cond (is_id r.value && without_descriptor r) (result_with (Id (id_of r.value)) (known memory_due (id_of r.value) k.counts)) (closes k)
 
 -- R85: then -1, with one
 unfoldable pub memory_step : Known → Record → Result
-memory_step k r = cond (is_memory r.value && with_descriptor r) (result Memory (known peers_due k.own k.counts)) (closes k)
+memory_step k r = cond (is_memory r.value && with_descriptor r) (result_with Memory (known peers_due k.own k.counts)) (closes k)
 
 -- R86: an id with a descriptor adds one vector to it, up to the configured number; one above that is extra and changes no count
 unfoldable pub adds : (vectors : ℕ) → Known → ℕ → Result
 adds vectors k id =
-    cond (ltb (count k id) vectors) (result (Vector id (count k id + 1)) (counted k id (count k id + 1)))
-    (result (Extra id (count k id)) k)
+    cond (ltb (count k id) vectors) (result_with (Vector id (count k id + 1)) (counted k id (count k id + 1)))
+    (result_with (Extra id (count k id)) k)
 
 -- R87: the id of another peer that has vectors, without a descriptor, disconnects that peer
 unfoldable pub removes : Known → ℕ → Result
-removes k id = cond (not (eqb id k.own) && ltb 0 (count k id)) (result (Disconnected id) (counted k id 0)) (closes k)
+removes k id = cond (not (eqb id k.own) && ltb 0 (count k id)) (result_with (Disconnected id) (counted k id 0)) (closes k)
 
 unfoldable pub peers_step : (vectors : ℕ) → Known → Record → Result
 peers_step vectors k r =

@@ -1,5 +1,7 @@
 // Reads what the server of the older ivshmem device sends to its clients: records of nine bytes, cut anywhere. A call takes bytes
 // through the end of one record at the most. The vector counts are lent, and the rest of the progress goes in and comes back.
+#![tactic(auto)]
+
 mod records;
 mod refusals;
 mod steps;
@@ -14,7 +16,7 @@ pub const MOST_VECTORS: u64 = 16;
 
 // How far the reader has come, beside the counts. All zero is the start.
 #[repr(C)]
-#[derive(Drop)]
+#[derive(Clone, Copy)]
 pub struct Progress {
     // the step that is due (steps.rt)
     pub due: u32,
@@ -26,7 +28,7 @@ pub struct Progress {
 }
 
 // What a record says.
-#[derive(Drop)]
+#[derive(Clone, Copy)]
 pub enum Message {
     // no whole record yet: more bytes are wanted
     More,

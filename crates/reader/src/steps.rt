@@ -2,7 +2,7 @@
 ghost use Rattle.std.specs.Prelude.{◌≡◌, true, cond, ℕ, ◌≤◌, ◌<◌, List, length};
 ghost use Rattle.reader.specs.Records.{record_of};
 ghost use Rattle.reader.specs.Sizes.{ids, most_vectors};
-ghost use Rattle.reader.specs.Steps.{peers_due, is_id, id_of, is_version, is_memory, known, result, closes};
+ghost use Rattle.reader.specs.Steps.{peers_due, is_id, id_of, is_version, is_memory, known, result_with, closes};
 ghost use Rattle.reader.specs.Steps.{version_step, id_step, memory_step, peers_step, adds, removes, read_record};
 ghost use Rattle.reader.specs.Parts.{result_of};
 
@@ -26,33 +26,33 @@ pub struct Outcome {
 }
 
 fn is_version(number: i64) -> bool
-    ensures* { λ r. ⌜ r ≡ is_version number ⌝ }
+    ensures { result ≡ is_version number }
 {
     number == 0
 }
 
 fn is_id(number: i64) -> bool
-    ensures* { λ r. ⌜ r ≡ is_id number ⌝ }
+    ensures { result ≡ is_id number }
 {
     (0 <= number) & (number < super::IDS as i64)
 }
 
 fn is_memory(number: i64) -> bool
-    ensures* { λ r. ⌜ r ≡ is_memory number ⌝ }
+    ensures { result ≡ is_memory number }
 {
     number == -1
 }
 
 fn id_of(number: i64) -> u8
     requires { is_id number ≡ true }
-    ensures* { λ r. ⌜ (r ≡ id_of number) × (r < ids) ⌝ }
+    ensures { (result ≡ id_of number) × (result < ids) }
 {
     number as u8
 }
 
 // Our id and the counts stay.
 fn closed(own: u32) -> Outcome
-    ensures* { λ r. ⌜ ((due : ℕ) (counts : List ℕ) → result_of r counts ≡ closes (known due own counts)) ⌝ }
+    ensures { (due : ℕ) (counts : List ℕ) → result_of result counts ≡ closes (known due own counts) }
 {
     Outcome {
         message: Message::Closed,
@@ -63,8 +63,8 @@ fn closed(own: u32) -> Outcome
 
 // On to another step with a message, or closed.
 fn proceed(ok: bool, message: Message, due: u32, own: u32) -> Outcome
-    ensures* { λ r. ⌜ ((before : ℕ) (counts : List ℕ) → result_of r counts
-        ≡ cond ok (result message (known due own counts)) (closes (known before own counts))) ⌝ }
+    ensures { (before : ℕ) (counts : List ℕ) → result_of result counts
+        ≡ cond ok (result_with message (known due own counts)) (closes (known before own counts)) }
 {
     if ok {
         return Outcome { message, due, own };
@@ -73,14 +73,14 @@ fn proceed(ok: bool, message: Message, due: u32, own: u32) -> Outcome
 }
 
 fn version_due(own: u32, kind: u8, number: i64) -> Outcome
-    ensures* { λ r. ⌜ ((due : ℕ) (counts : List ℕ) → result_of r counts ≡ version_step (known due own counts) (record_of kind number)) ⌝ }
+    ensures { (due : ℕ) (counts : List ℕ) → result_of result counts ≡ version_step (known due own counts) (record_of kind number) }
 {
     let ok = is_version(number) & (kind == 0);
     proceed(ok, Message::Version, ID_DUE, own)
 }
 
 fn id_due(own: u32, kind: u8, number: i64) -> Outcome
-    ensures* { λ r. ⌜ ((due : ℕ) (counts : List ℕ) → result_of r counts ≡ id_step (known due own counts) (record_of kind number)) ⌝ }
+    ensures { (due : ℕ) (counts : List ℕ) → result_of result counts ≡ id_step (known due own counts) (record_of kind number) }
 {
     let ok = is_id(number) & (kind == 0);
     if ok {
@@ -95,7 +95,7 @@ fn id_due(own: u32, kind: u8, number: i64) -> Outcome
 }
 
 fn memory_due(own: u32, kind: u8, number: i64) -> Outcome
-    ensures* { λ r. ⌜ ((due : ℕ) (counts : List ℕ) → result_of r counts ≡ memory_step (known due own counts) (record_of kind number)) ⌝ }
+    ensures { (due : ℕ) (counts : List ℕ) → result_of result counts ≡ memory_step (known due own counts) (record_of kind number) }
 {
     let ok = is_memory(number) & (kind == 1);
     proceed(ok, Message::Memory, PEERS_DUE, own)
@@ -104,7 +104,7 @@ fn memory_due(own: u32, kind: u8, number: i64) -> Outcome
 // One vector more, up to the configured number.
 fn add(own: u32, counts: &mut [u8], vectors: u64, id: u8) -> Outcome
     requires { (length counts.old ≡ ids) × (vectors ≤ most_vectors) × (id < ids) }
-    ensures* { λ r. ⌜ result_of r counts.new ≡ adds vectors (known peers_due own counts.old) id ⌝ }
+    ensures { result_of result counts.new ≡ adds vectors (known peers_due own counts.old) id }
 {
     let at = id as usize;
     let count = counts[at];
@@ -126,7 +126,7 @@ fn add(own: u32, counts: &mut [u8], vectors: u64, id: u8) -> Outcome
 // Another peer with vectors has left.
 fn remove(own: u32, counts: &mut [u8], id: u8) -> Outcome
     requires { (length counts.old ≡ ids) × (id < ids) }
-    ensures* { λ r. ⌜ result_of r counts.new ≡ removes (known peers_due own counts.old) id ⌝ }
+    ensures { result_of result counts.new ≡ removes (known peers_due own counts.old) id }
 {
     let at = id as usize;
     let count = counts[at];
@@ -144,7 +144,7 @@ fn remove(own: u32, counts: &mut [u8], id: u8) -> Outcome
 
 fn peers_due(own: u32, counts: &mut [u8], vectors: u64, kind: u8, number: i64) -> Outcome
     requires { (length counts.old ≡ ids) × (vectors ≤ most_vectors) }
-    ensures* { λ r. ⌜ result_of r counts.new ≡ peers_step vectors (known peers_due own counts.old) (record_of kind number) ⌝ }
+    ensures { result_of result counts.new ≡ peers_step vectors (known peers_due own counts.old) (record_of kind number) }
 {
     let named = is_id(number);
     if !named {
@@ -170,7 +170,7 @@ pub fn read_record(
     number: i64,
 ) -> Outcome
     requires { (length counts.old ≡ ids) × (vectors ≤ most_vectors) }
-    ensures* { λ r. ⌜ result_of r counts.new ≡ read_record vectors (known due own counts.old) (record_of kind number) ⌝ }
+    ensures { result_of result counts.new ≡ read_record vectors (known due own counts.old) (record_of kind number) }
 {
     match due {
         0 => version_due(own, kind, number),

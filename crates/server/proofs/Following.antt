@@ -4,7 +4,6 @@ use mathlib.Core.Bool.{true, false, cond, not, ◌&&◌, true≢false}
 use mathlib.Core.List.{List, [], ◌∷◌, ◌++◌, append-nil}
 use mathlib.Core.Path.{◌≡◌, refl, sym, ◌∙◌}
 use Rattle.common.proofs.TestLaws.{by_equal, and_false}
-use Rattle.common.specs.Streams.{joined}
 use Rattle.reader.proofs.Cutting.{every_stream_is_read, pieces_are_bytes}
 use Rattle.reader.proofs.Keeping.{start_is_good}
 use Rattle.reader.proofs.ReadLaws.{by_bool, by_less}

@@ -25,7 +25,7 @@ use Rattle.reader.specs.Cutting.{one_byte}
 use Rattle.reader.specs.Reading.{start, emptied, refusal}
 use Rattle.reader.specs.Records.{Record, record_in}
 use Rattle.reader.specs.Sizes.{ids}
-use Rattle.reader.specs.Steps.{Known, known, result, Result, is_version, is_id, id_of, is_memory, version_step, id_step, memory_step, adds}
+use Rattle.reader.specs.Steps.{Known, known, result_with, Result, is_version, is_id, id_of, is_memory, version_step, id_step, memory_step, adds}
 use Rattle.reader.specs.Steps.{removes, peers_step, read_record}
 use Rattle.server.proofs.FreeLaws.{at_joined, at_free, below_next}
 use Rattle.server.proofs.JoinedLaws.{joined_below_lem, joined_beyond, with_same, with_other, without_same, without_other}
@@ -86,10 +86,10 @@ module _ (vectors : ℕ) (good : refusal vectors start ≡ 0) where
   unfolding read_record version_step is_version id_step is_id id_of memory_step is_memory is_plain
   told_start own h =
       let none : List ℕ = replicate ids 0 in
-      told_more (version ∷ own_id own ∷ []) (known 2 own none) memory (result Memory (known 3 own none)) (omega arith) refl refl
-      (told_more (version ∷ []) (known 1 0 none) (own_id own) (result (Id own) (known 2 own none)) (omega (arith, ids_byte))
+      told_more (version ∷ own_id own ∷ []) (known 2 own none) memory (result_with Memory (known 3 own none)) (omega arith) refl refl
+      (told_more (version ∷ []) (known 1 0 none) (own_id own) (result_with (Id own) (known 2 own none)) (omega (arith, ids_byte))
       (rw (lt-ltb own ids h)) refl
-      (told_more [] (known 0 0 none) version (result Version (known 1 0 none)) (omega arith) refl refl told_none))
+      (told_more [] (known 0 0 none) version (result_with Version (known 1 0 none)) (omega arith) refl refl told_none))
 
   -- a vector of an id that has not all of them
   module _ (own id : ℕ) (h : id < ids) where
@@ -98,7 +98,7 @@ module _ (vectors : ℕ) (good : refusal vectors start ≡ 0) where
     unfolding read_record peers_step is_id id_of adds is_plain
     told_vector rs counts m t =
         told_more rs (known 3 own counts) (vector_of id)
-        (result (Vector id (get_or counts id 0 + 1)) (known 3 own (set counts id (get_or counts id 0 + 1))))
+        (result_with (Vector id (get_or counts id 0 + 1)) (known 3 own (set counts id (get_or counts id 0 + 1))))
         (omega (arith, ids_byte)) (rw (lt-ltb id ids h, lt-ltb (get_or counts id 0) vectors m)) refl t
 
     -- as many as may be, where it has none
@@ -120,7 +120,7 @@ module _ (vectors : ℕ) (good : refusal vectors start ≡ 0) where
         → Told vectors (rs ++ has_left id ∷ []) (known 3 own (set counts id 0))
     unfolding read_record peers_step is_id id_of removes is_plain
     told_left rs counts o m t =
-        told_more rs (known 3 own counts) (has_left id) (result (Disconnected id) (known 3 own (set counts id 0))) (omega (arith, ids_byte))
+        told_more rs (known 3 own counts) (has_left id) (result_with (Disconnected id) (known 3 own (set counts id 0))) (omega (arith, ids_byte))
         (rw (lt-ltb id ids h, ne_eqb id own o, lt-ltb 0 (get_or counts id 0) m)) refl t
 
 -- the counts of those ids for which a test holds

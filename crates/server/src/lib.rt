@@ -1,5 +1,7 @@
 // Writes what the server of the older ivshmem device sends to its clients as they join and leave. The state goes in and comes back,
 // and the messages are written to the front of a lent buffer.
+#![tactic(auto)]
+
 mod clients;
 mod messages;
 mod notices;
@@ -20,7 +22,7 @@ pub const BUFFER_BYTES: usize = 20350;
 
 // Bit i of `joined` is 1 where id i is joined.
 #[repr(C)]
-#[derive(Drop)]
+#[derive(Clone, Copy)]
 pub struct Server {
     pub joined: u64,
     pub vectors: u64,

@@ -6,7 +6,7 @@ ghost use Rattle.server.specs.Parts.{written, written_times};
 pub const SENT_BYTES: usize = 10;
 
 // A message whose number is an id, or -1: its lowest byte, and the one that all seven above it are.
-#[derive(Drop)]
+#[derive(Clone, Copy)]
 pub struct Message {
     pub client: u8,
     pub kind: u8,

@@ -9,7 +9,7 @@ use super::messages::Message;
 use super::{clients, messages};
 
 // What is said of an id and each client: the same message, `times` times.
-#[derive(Drop)]
+#[derive(Clone, Copy)]
 pub struct Notice {
     pub kind: u8,
     pub id: u8,

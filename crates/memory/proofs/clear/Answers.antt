@@ -1,8 +1,7 @@
-use Prim.Native.Nat.{ℕ, ◌-◌, ◌≤◌}
-use mathlib.Core.List.{◌++◌}
+use Prim.Native.Nat.{ℕ}
 use mathlib.Core.Path.{◌≡◌, refl, sym, ap, ◌∙◌}
 use native.Mathlib.Omega.{arith}
-use lib.ListN.{length, length-set, drop, replicate}
+use lib.ListN.{length, length-set, replicate}
 use Rattle.common.proofs.ListLaws.{filled_more, filled_all}
 use Rattle.memory.proofs.clear.Goals as goal
 
@@ -10,12 +9,10 @@ pub loop-k-init : goal.loop-k-init
 loop-k-init c = (omega arith, refl, refl)
 
 pub loop-k-preserved : goal.loop-k-preserved
-loop-k-preserved c =
-    (
+loop-k-preserved c = (
   omega arith,
   simp length-set (omega arith),
-  rw c.loop-k.invariant.2
-      (filled_more c.loop-k.k 0 c.args.region.now (omega arith)),
+  rw c.loop-k.invariant.2 (filled_more c.loop-k.k 0 c.args.region.now (omega arith)),
 )
 
 pub shape_of-region : goal.shape_of-region

@@ -2,7 +2,6 @@
 use Prim.Native.Nat.{◌+◌, ◌*◌, ◌-◌}
 use mathlib.Core.Path.{◌≡◌}
 use native.Mathlib.Omega.{arith}
-use borrow.Author.Rules.{rules}
 use Rattle.common.proofs.ByteLaws.{length_bytes}
 use Rattle.common.specs.Bytes.{bytes}
 use Rattle.memory.proofs.PasteLaws.{part_back}

@@ -2,7 +2,6 @@
 use Prim.Native.Nat.{◌/◌}
 use mathlib.Core.Path.{◌≡◌, ◌∙◌}
 use native.Mathlib.Omega.{arith}
-use borrow.Author.Rules.{rules}
 use Rattle.common.specs.Bytes.{bytes}
 use Rattle.memory.proofs.PasteLaws.{four_stores}
 use Rattle.memory.proofs.put_word.Goals as goal

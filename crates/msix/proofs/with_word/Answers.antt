@@ -1,5 +1,4 @@
 -- `msix::with_word` meets its contract: each word is the definition's.
-use borrow.Author.Rules.{rules}
 use Rattle.device.specs.Msix.{with_word}
 use Rattle.msix.proofs.with_word.Goals as goal
 

@@ -1,5 +1,4 @@
 -- `sections::answer` meets its contract: the two parts are the definition's.
-use borrow.Author.Rules.{rules}
 use Rattle.device.specs.Sections.{answer_of}
 use Rattle.sections.proofs.answer.Goals as goal
 

@@ -3,7 +3,6 @@ use Prim.Native.Nat.{◌-◌, ◌+◌}
 use mathlib.Core.Path.{sym}
 use native.Mathlib.Nat.{div-mul-le_self}
 use native.Mathlib.Omega.{arith}
-use borrow.Author.Rules.{rules}
 use Rattle.device.proofs.SetUpLaws.{accepted_facts, table_small, common_small, output_small}
 use Rattle.device.proofs.SizeLaws.{max_peers_small}
 use Rattle.sections.proofs.OutputLaws.{none_before, none_empty, none_past, none_cut, found}

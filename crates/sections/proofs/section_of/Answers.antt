@@ -1,7 +1,6 @@
 -- `sections::section_of` meets its contract: nothing lies beyond the whole, and the tests are those of the search.
 use mathlib.Core.Path.{sym, ◌∙◌}
 use native.Mathlib.Omega.{arith}
-use borrow.Author.Rules.{rules}
 use Rattle.device.proofs.SetUpLaws.{accepted_facts, table_small, common_small}
 use Rattle.sections.proofs.OutputLaws.{beyond, in_table_lem, in_common, in_outputs}
 use Rattle.sections.proofs.section_of.Goals as goal

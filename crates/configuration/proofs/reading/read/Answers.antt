@@ -1,9 +1,8 @@
 -- `configuration::reading::read` meets its contract: the bytes asked for are the word's, from their place on and cut to their number.
 use Prim.Native.Nat.{◌+◌, ◌-◌, ◌*◌, ◌/◌, ◌%◌, ◌<◌, ◌≤◌, ◌^◌}
-use mathlib.Core.Path.{◌≡◌, refl, sym}
+use mathlib.Core.Path.{◌≡◌, sym}
 use native.Mathlib.Nat.{lt_of_lt_of_le}
 use native.Mathlib.Omega.{arith}
-use borrow.Author.Rules.{rules}
 use lib.Bits.{bit_and, and_mask}
 use lib.Pow.{pow_mono}
 use Rattle.device.specs.Configuration.{configuration_read}
@@ -22,4 +21,4 @@ returns c =
     let width : 8 * a.width ≤ 32 = omega arith in
     let small : configuration_read a.s a.p a.at a.width < 2 ^ 32 =
     lt_of_lt_of_le (read_small a.s a.p a.at a.width) (pow_mono width) in
-    rw (c.enabled.ensures, e) record { is = refl; fits = small }
+    rw c.enabled.ensures record { is = e; fits = rw e small }

@@ -1,7 +1,6 @@
 -- `configuration::writing::merged` meets its contract: the expression is the definition's, and no bit of it is beyond the mask's word.
 use native.Mathlib.Omega.{arith}
 use lib.Bits.{bit_and, and_le_r}
-use borrow.Author.Rules.{rules}
 use Rattle.configuration.proofs.writing.merged.Goals as goal
 
 pub overflow_cast-result : goal.overflow_cast-result

@@ -2,7 +2,6 @@
 use mathlib.Core.Path.{sym}
 use native.Mathlib.Omega.{arith}
 use Rattle.configuration.proofs.WriteLaws.{written_word}
-use borrow.Author.Rules.{rules}
 use Rattle.configuration.proofs.writing.write.Goals as goal
 
 pub returns : goal.returns

@@ -1,5 +1,4 @@
 -- `configuration::writing::write_word` meets its contract, arm by arm.
-use borrow.Author.Tests.{ne_eqb}
 use Rattle.device.specs.Configuration.{mask_of, mask_at, mask_in, masks}
 use Rattle.configuration.specs.Parts.{word_written}
 use borrow.Author.Rules.{rules}
