@@ -14,7 +14,7 @@ fn main() {
     // No error: documentation and checks do without the archive. What links it fails by its name.
     if !archive.is_file() {
         println!(
-            "cargo::warning=no {}, without which nothing links: make it with `rt staticlib {library}` in the \
+            "cargo::warning=no {}, without which nothing links: make it with `./archive {library}` in the \
              repository's root, or name its folder in IVSHMEM_LIB_DIR",
             archive.display()
         );

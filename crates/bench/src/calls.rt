@@ -14,28 +14,28 @@ pub fn low_word(n: u64) -> u32 {
 }
 
 // Whether the words and the region are zero, or hold what they held before the call.
-fn left(hub: &[u32], region: &[u8]) {
+fn left(rt: &impl Print, hub: &[u32], region: &[u8]) {
     if state::all_words(hub, 0) {
-        say(print::WORDS_ZERO, 0);
+        say(rt, print::WORDS_ZERO, 0);
     } else if state::all_words(hub, state::OLD_WORD) {
-        say(print::WORDS_KEPT, 0);
+        say(rt, print::WORDS_KEPT, 0);
     } else {
-        say(print::WORDS_SET, 0);
+        say(rt, print::WORDS_SET, 0);
     }
     if state::all_bytes(region, state::OLD_BYTE) {
-        say(print::REGION_KEPT, 0);
+        say(rt, print::REGION_KEPT, 0);
     } else if state::all_bytes(region, 0) {
-        say(print::REGION_ZERO, 0);
+        say(rt, print::REGION_ZERO, 0);
     } else {
-        say(print::REGION_CHANGED, 0);
+        say(rt, print::REGION_CHANGED, 0);
     }
 }
 
 // N, V, S, R, O and the base; after them come the lengths of what is lent.
-pub fn set_up(hub: &mut [u32], region: &mut [u8], n: Numbers) {
+pub fn set_up(rt: &impl Print, hub: &mut [u32], region: &mut [u8], n: Numbers) {
     let r = hub::set_up(hub, region, n.7, n.6, n.5, n.4, n.3, n.2, 0, 0, 0);
-    print::done(r);
-    left(hub, region);
+    print::done(rt, r);
+    left(rt, hub, region);
 }
 
 // A write of configuration space or of the MSI-X region: id, offset, width and value.
@@ -55,96 +55,102 @@ pub fn read(space: Space, hub: &[u32], n: Numbers) -> Reply {
     }
 }
 
-fn served(hub: &[u32], s: Served) {
+fn served(rt: &impl Print, hub: &[u32], s: Served) {
     let reply = s.reply;
     let list = s.list;
-    print::done(reply);
-    print::delivered(hub, list);
+    print::done(rt, reply);
+    print::delivered(rt, hub, list);
 }
 
 // The calls to which a delivery table is lent: id, offset, width and value, or an id.
-pub fn register_write(hub: &mut [u32], region: &mut [u8], records: u64, n: Numbers) {
+pub fn register_write(
+    rt: &impl Print,
+    hub: &mut [u32],
+    region: &mut [u8],
+    records: u64,
+    n: Numbers,
+) {
     let s = hub::register_write(hub, region, records, n.3, n.2, n.1, low_word(n.0));
-    served(hub, s);
+    served(rt, hub, s);
 }
 
-pub fn reset(hub: &mut [u32], region: &mut [u8], records: u64, id: u64) {
+pub fn reset(rt: &impl Print, hub: &mut [u32], region: &mut [u8], records: u64, id: u64) {
     let s = hub::reset(hub, region, records, id);
-    served(hub, s);
+    served(rt, hub, s);
 }
 
-pub fn disconnect(hub: &mut [u32], region: &mut [u8], records: u64, id: u64) {
+pub fn disconnect(rt: &impl Print, hub: &mut [u32], region: &mut [u8], records: u64, id: u64) {
     let s = hub::disconnect(hub, region, records, id);
-    served(hub, s);
+    served(rt, hub, s);
 }
 
 // The bytes of a short buffer, or the one value that all bytes of a long one have.
-fn contents(buffer: &[u8]) {
-    say(print::LOADED, 0);
+fn contents(rt: &impl Print, buffer: &[u8]) {
+    say(rt, print::LOADED, 0);
     if buffer.len() <= 8 {
-        print::bytes(buffer);
+        print::bytes(rt, buffer);
     } else if state::all_bytes(buffer, buffer[0]) {
-        say(print::ALL, 0);
-        print::bytes(&[buffer[0]]);
+        say(rt, print::ALL, 0);
+        print::bytes(rt, &[buffer[0]]);
     } else {
-        say(print::SEVERAL, 0);
+        say(rt, print::SEVERAL, 0);
     }
 }
 
 // A load into a buffer: id and offset.
-fn loaded(hub: &[u32], region: &[u8], buffer: &mut [u8], n: Numbers) {
+fn loaded(rt: &impl Print, hub: &[u32], region: &[u8], buffer: &mut [u8], n: Numbers) {
     let r = hub::load(hub, region, n.2, n.1, buffer);
-    print::done(r);
+    print::done(rt, r);
     if r.number == 0 {
-        contents(buffer);
+        contents(rt, buffer);
     } else if state::all_bytes(buffer, state::OLD_BYTE) {
-        say(print::BUFFER_KEPT, 0);
+        say(rt, print::BUFFER_KEPT, 0);
     }
 }
 
 // Id, offset and length.
-pub fn load(hub: &[u32], region: &[u8], n: Numbers) {
+pub fn load(rt: &impl Print, hub: &[u32], region: &[u8], n: Numbers) {
     let mut room = [state::OLD_BYTE; ROOM];
     let length = n.0 as usize;
     if length <= ROOM {
-        loaded(hub, region, &mut room[..length], n);
+        loaded(rt, hub, region, &mut room[..length], n);
     }
 }
 
 // The first bytes of a room are stored: id, offset and length, and after them the first byte.
-fn stored(hub: &[u32], region: &mut [u8], room: &[u8], n: Numbers) {
+fn stored(rt: &impl Print, hub: &[u32], region: &mut [u8], room: &[u8], n: Numbers) {
     let length = n.1 as usize;
     if length <= room.len() {
-        print::done(hub::store(hub, region, n.3, n.2, &room[..length]));
+        print::done(rt, hub::store(hub, region, n.3, n.2, &room[..length]));
     }
 }
 
 // A short store's bytes count up from the first, so that their order shows; a long one's are all the same.
-pub fn store(hub: &[u32], region: &mut [u8], n: Numbers) {
+pub fn store(rt: &impl Print, hub: &[u32], region: &mut [u8], n: Numbers) {
     let b = (n.0 % 128) as u8;
     if n.1 <= 8 {
         let short = [b, b + 1, b + 2, b + 3, b + 4, b + 5, b + 6, b + 7];
-        stored(hub, region, &short, n);
+        stored(rt, hub, region, &short, n);
     } else {
-        stored(hub, region, &[b; ROOM], n);
+        stored(rt, hub, region, &[b; ROOM], n);
     }
 }
 
 // Every read, of words that may be no hub.
-fn every_read(hub: &[u32]) {
-    say(print::CONFIGURATION, 0);
-    print::value(hub::configuration_read(hub, 0, 0, 4));
-    say(print::REGISTER, 0);
-    print::value(hub::register_read(hub, 0, 0, 4));
-    say(print::MSIX, 0);
-    print::value(hub::msix_read(hub, 0, 0, 4));
-    say(print::QUESTION, 0);
-    print::section(hub::section_question(hub, 0, 0, 4));
+fn every_read(rt: &impl Print, hub: &[u32]) {
+    say(rt, print::CONFIGURATION, 0);
+    print::value(rt, hub::configuration_read(hub, 0, 0, 4));
+    say(rt, print::REGISTER, 0);
+    print::value(rt, hub::register_read(hub, 0, 0, 4));
+    say(rt, print::MSIX, 0);
+    print::value(rt, hub::msix_read(hub, 0, 0, 4));
+    say(rt, print::QUESTION, 0);
+    print::section(rt, hub::section_question(hub, 0, 0, 4));
 }
 
 // A connect before them.
-pub fn every(hub: &mut [u32]) {
-    say(print::CONNECT, 0);
-    print::done(hub::connect(hub, 1));
-    every_read(hub);
+pub fn every(rt: &impl Print, hub: &mut [u32]) {
+    say(rt, print::CONNECT, 0);
+    print::done(rt, hub::connect(hub, 1));
+    every_read(rt, hub);
 }

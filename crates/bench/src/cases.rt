@@ -6,7 +6,7 @@ use super::state::{Change, MEMORY_WORDS, Memory, OLD_BYTE, OLD_WORD, REGION_BYTE
 use super::{calls, input, kinds, print, state};
 
 // Words of the memory, bytes of the region, records of a delivery table.
-#[derive(Drop)]
+#[derive(Clone, Copy)]
 pub struct Lent {
     pub words: usize,
     pub bytes: usize,
@@ -36,36 +36,51 @@ fn lent_now(kind: Kind, n: Numbers, lent: Lent) -> Lent {
     now
 }
 
-fn on_hub(kind: Kind, n: Numbers, hub: &mut [u32]) {
+fn on_hub(rt: &impl Print, kind: Kind, n: Numbers, hub: &mut [u32]) {
     match kind {
-        Kind::Connect => print::done(hub::connect(hub, n.0)),
-        Kind::Write(space) => print::done(calls::write(space, hub, n)),
-        Kind::Read(space) => print::value(calls::read(space, hub, n)),
-        Kind::Question => print::section(hub::section_question(hub, n.2, n.1, n.0)),
-        Kind::Changed | Kind::Cut => calls::every(hub),
+        Kind::Connect => print::done(rt, hub::connect(hub, n.0)),
+        Kind::Write(space) => print::done(rt, calls::write(space, hub, n)),
+        Kind::Read(space) => print::value(rt, calls::read(space, hub, n)),
+        Kind::Question => print::section(rt, hub::section_question(hub, n.2, n.1, n.0)),
+        Kind::Changed | Kind::Cut => calls::every(rt, hub),
         _ => {}
     }
 }
 
-fn answered(kind: Kind, n: Numbers, hub: &mut [u32], region: &mut [u8], records: u64) {
+fn answered(
+    rt: &impl Print,
+    kind: Kind,
+    n: Numbers,
+    hub: &mut [u32],
+    region: &mut [u8],
+    records: u64,
+) {
     match kind {
-        Kind::SetUp | Kind::Again => calls::set_up(hub, region, n),
-        Kind::RegisterWrite => calls::register_write(hub, region, records, n),
-        Kind::Reset => calls::reset(hub, region, records, n.0),
-        Kind::Disconnect => calls::disconnect(hub, region, records, n.0),
-        Kind::Load => calls::load(hub, region, n),
-        Kind::Store => calls::store(hub, region, n),
-        _ => on_hub(kind, n, hub),
+        Kind::SetUp | Kind::Again => calls::set_up(rt, hub, region, n),
+        Kind::RegisterWrite => calls::register_write(rt, hub, region, records, n),
+        Kind::Reset => calls::reset(rt, hub, region, records, n.0),
+        Kind::Disconnect => calls::disconnect(rt, hub, region, records, n.0),
+        Kind::Load => calls::load(rt, hub, region, n),
+        Kind::Store => calls::store(rt, hub, region, n),
+        _ => on_hub(rt, kind, n, hub),
     }
 }
 
 // On the parts of the memory and of the region that are lent.
-fn lent_to(kind: Kind, n: Numbers, memory: &mut [u32], region: &mut [u8], lent: Lent) {
+fn lent_to(
+    rt: &impl Print,
+    kind: Kind,
+    n: Numbers,
+    memory: &mut [u32],
+    region: &mut [u8],
+    lent: Lent,
+) {
     let words = lent.words;
     let bytes = lent.bytes;
     if words <= memory.len() {
         if bytes <= region.len() {
             answered(
+                rt,
                 kind,
                 n,
                 &mut memory[..words],
@@ -123,29 +138,35 @@ fn ending(kind: Kind, words: bool, region: bool) -> usize {
     }
 }
 
-fn end(kind: Kind, words: bool, change: Change) {
+fn end(rt: &impl Print, kind: Kind, words: bool, change: Change) {
     let same = change.first == REGION_BYTES;
     if let Kind::Store = kind {
         if !same {
-            say(print::FIRST_CHANGED, change.first as u64);
-            say(print::LAST_CHANGED, change.last as u64);
+            say(rt, print::FIRST_CHANGED, change.first as u64);
+            say(rt, print::LAST_CHANGED, change.last as u64);
         }
     }
-    say(ending(kind, words, same), 0);
+    say(rt, ending(kind, words, same), 0);
 }
 
 // One line, and what is lent after it.
-pub fn run(line: &[u8], memory: &mut Memory, region: &mut Region, lent: Lent) -> Lent {
+pub fn run(
+    rt: &impl Print,
+    line: &[u8],
+    memory: &mut Memory,
+    region: &mut Region,
+    lent: Lent,
+) -> Lent {
     let kind = kinds::of(line);
     if let Kind::Comment = kind {
         return lent;
     }
     let shown = input::find(line, 0, b'@');
-    print::text(&line[..shown]);
-    say(middle(kind), 0);
+    print::text(rt, &line[..shown]);
+    say(rt, middle(kind), 0);
     let n = input::scan(line);
     let now = lent_now(kind, n, lent);
-    case(kind, n, memory, region, now);
+    case(rt, kind, n, memory, region, now);
     if let Kind::Cut = kind {
         return lent;
     }
@@ -153,13 +174,21 @@ pub fn run(line: &[u8], memory: &mut Memory, region: &mut Region, lent: Lent) ->
 }
 
 // A word that was put for this case alone is as it was after it.
-fn case(kind: Kind, n: Numbers, memory: &mut Memory, region: &mut Region, lent: Lent) {
+fn case(
+    rt: &impl Print,
+    kind: Kind,
+    n: Numbers,
+    memory: &mut Memory,
+    region: &mut Region,
+    lent: Lent,
+) {
     let whole = *memory;
     prepared(kind, n, memory, region);
     let words = *memory;
     let bytes = *region;
-    lent_to(kind, n, memory, region, lent);
+    lent_to(rt, kind, n, memory, region, lent);
     end(
+        rt,
         kind,
         state::same_words(memory, &words),
         state::compared(region, &bytes),

@@ -3,7 +3,7 @@
 ghost use Rattle.std.specs.Prelude.{◌≤◌, length};
 
 // The last eight numbers of a line, the last one first. No case has more.
-#[derive(Drop)]
+#[derive(Clone, Copy)]
 pub struct Numbers(
     pub u64,
     pub u64,
@@ -16,7 +16,7 @@ pub struct Numbers(
 );
 
 // The numbers so far, and the number that the digits just read make, in either base, if there are any.
-#[derive(Drop)]
+#[derive(Clone, Copy)]
 struct Progress {
     numbers: Numbers,
     digits: bool,

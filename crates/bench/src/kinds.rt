@@ -1,7 +1,7 @@
 // Which case a line is, by the words that it begins with.
 use super::input;
 
-#[derive(Drop)]
+#[derive(Clone, Copy)]
 pub enum Kind {
     Comment,
     // a call to which a region and a table of the lengths in front of it are lent
@@ -27,7 +27,7 @@ pub enum Kind {
     Made,
 }
 
-#[derive(Drop)]
+#[derive(Clone, Copy)]
 pub enum Space {
     Configuration,
     Registers,

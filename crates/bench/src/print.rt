@@ -3,7 +3,6 @@ ghost use Rattle.std.specs.Prelude.{◌<◌, ◌≤◌};
 
 use deliveries::Deliveries;
 use device::{Delivery, Reply, SectionKind, SectionReply};
-use libc::STDOUT_FILENO;
 
 const PHRASES_BYTES: usize = 362;
 
@@ -95,8 +94,9 @@ pub const NOTHING: usize = 37;
 
 pub const LINE_END: usize = 38;
 
-pub fn text(s: &[u8]) {
-    io::write_all(STDOUT_FILENO, s);
+// A write that fails is let go, and the program goes on.
+pub fn text(rt: &impl Print, s: &[u8]) {
+    let _ = rt.write_all(s);
 }
 
 // Capital letters, as the rules write them.
@@ -110,7 +110,7 @@ fn digit(d: u64) -> u8
 }
 
 // The lowest digits of a number.
-fn hex(n: u64, digits: usize)
+fn hex(rt: &impl Print, n: u64, digits: usize)
     requires { digits ≤ 16 }
 {
     let mut out = [0u8; 16];
@@ -121,23 +121,23 @@ fn hex(n: u64, digits: usize)
         rest = rest / 16;
         k += 1;
     }
-    text(&out[16 - digits..]);
+    text(rt, &out[16 - digits..]);
 }
 
-fn spoken(b: u8, n: u64) {
+fn spoken(rt: &impl Print, b: u8, n: u64) {
     match b {
         b'#' => {
-            io::print_decimal(STDOUT_FILENO, n);
+            let _ = rt.print(n);
         }
-        b'&' => hex(n, 2),
-        b'$' => hex(n, 8),
-        b'%' => hex(n, 16),
-        _ => text(&[b]),
+        b'&' => hex(rt, n, 2),
+        b'$' => hex(rt, n, 8),
+        b'%' => hex(rt, n, 16),
+        _ => text(rt, &[b]),
     }
 }
 
 // A phrase by its place, with a number in it.
-pub fn say(phrase: usize, n: u64) {
+pub fn say(rt: &impl Print, phrase: usize, n: u64) {
     let mut left = phrase;
     let mut k = 0;
     while k < PHRASES_BYTES {
@@ -148,69 +148,73 @@ pub fn say(phrase: usize, n: u64) {
             }
             left -= 1;
         } else if left == 0 {
-            spoken(b, n);
+            spoken(rt, b, n);
         }
         k += 1;
     }
 }
 
 // The answer to a call that reads nothing, whose value is 0, as a refusal's is.
-pub fn done(r: Reply) {
-    say(if r.number == 0 { TAKEN } else { REFUSED }, r.number as u64);
+pub fn done(rt: &impl Print, r: Reply) {
+    say(
+        rt,
+        if r.number == 0 { TAKEN } else { REFUSED },
+        r.number as u64,
+    );
     if r.value != 0 {
-        say(WITH_VALUE, 0);
+        say(rt, WITH_VALUE, 0);
     }
 }
 
 // The answer to a read.
-pub fn value(r: Reply) {
+pub fn value(rt: &impl Print, r: Reply) {
     if r.number != 0 {
-        done(r);
+        done(rt, r);
         return;
     }
-    say(VALUE, r.value as u64);
+    say(rt, VALUE, r.value as u64);
 }
 
-fn kind(k: SectionKind) {
+fn kind(rt: &impl Print, k: SectionKind) {
     match k {
-        SectionKind::Nothing => say(NO_SECTION, 0),
-        SectionKind::StateTable => say(STATE_TABLE, 0),
-        SectionKind::ReadWrite => say(READ_WRITE, 0),
-        SectionKind::Output(owner) => say(OUTPUT, owner.0 as u64),
+        SectionKind::Nothing => say(rt, NO_SECTION, 0),
+        SectionKind::StateTable => say(rt, STATE_TABLE, 0),
+        SectionKind::ReadWrite => say(rt, READ_WRITE, 0),
+        SectionKind::Output(owner) => say(rt, OUTPUT, owner.0 as u64),
     }
 }
 
 // The answer to the section question.
-pub fn section(r: SectionReply) {
+pub fn section(rt: &impl Print, r: SectionReply) {
     let reply = r.reply;
     let answer = r.section;
     let where_it_is = answer.kind;
-    done(reply);
-    kind(where_it_is);
-    say(if answer.store { YES } else { NO }, 0);
+    done(rt, reply);
+    kind(rt, where_it_is);
+    say(rt, if answer.store { YES } else { NO }, 0);
 }
 
-fn delivery(d: Delivery) {
+fn delivery(rt: &impl Print, d: Delivery) {
     let target = d.target;
     let vector = d.vector;
-    say(TARGET, target.0 as u64);
-    say(VECTOR, vector.0 as u64);
-    say(ADDRESS, d.address);
-    say(PAYLOAD, d.payload as u64);
+    say(rt, TARGET, target.0 as u64);
+    say(rt, VECTOR, vector.0 as u64);
+    say(rt, ADDRESS, d.address);
+    say(rt, PAYLOAD, d.payload as u64);
 }
 
 // The deliveries of a call, in ring order, made from the hub that the call left.
-pub fn delivered(hub: &[u32], list: Deliveries) {
+pub fn delivered(rt: &impl Print, hub: &[u32], list: Deliveries) {
     let count = list.count;
     let vector = list.vector;
     let targets = list.targets;
     if count > 0 {
-        say(DELIVERED, 0);
+        say(rt, DELIVERED, 0);
     }
     let mut k = 0;
     while k < device::MAX_PEERS {
         if k < count {
-            delivery(deliveries::sent(hub, targets[k], vector));
+            delivery(rt, deliveries::sent(hub, targets[k], vector));
         }
         k += 1;
     }
@@ -220,10 +224,10 @@ fn wide(b: u8) -> u64 {
     b as u64
 }
 
-pub fn bytes(b: &[u8]) {
+pub fn bytes(rt: &impl Print, b: &[u8]) {
     let mut k = 0;
     while k < b.len() {
-        say(BYTE, wide(b[k]));
+        say(rt, BYTE, wide(b[k]));
         k += 1;
     }
 }

@@ -1,5 +1,5 @@
-// The library that a host links: one exported function for each call. Numbers are plain and memory is lent. The calls that may
-// ring other peers are here; host.rt and guest.rt have the others.
+// The calls of the library that a host links, one function for each; crates/ivshmem_c exports them. Numbers are plain and memory is
+// lent. The calls that may ring other peers are here; host.rt and guest.rt have the others.
 #![tactic(auto)]
 
 ghost use Rattle.std.specs.Prelude.{ℕ};

@@ -34,10 +34,10 @@ const HOST: u64 = 4;
 // The records of the delivery table that would be lent.
 const RECORDS: u64 = PEERS;
 
-pub fn set_up(hub: &mut Hub, region: &mut Region, log: Log) -> Log {
-    let next = log.begin(HOST, b"set up 4 peers with 2 vectors");
+pub fn set_up(rt: &impl Print, hub: &mut Hub, region: &mut Region, log: Log) -> Log {
+    let next = log.begin(rt, HOST, b"set up 4 peers with 2 vectors");
     let r = hub::set_up(hub, region, PEERS, VECTORS, 4096, 4096, 4096, BASE, 1, 0, 0);
-    print::answered(r.number);
+    print::answered(rt, r.number);
     next
 }
 
@@ -70,12 +70,13 @@ fn switch_on(hub: &mut Hub, region: &mut Region, id: u64) -> u32 {
     )
 }
 
-pub fn join(hub: &mut Hub, region: &mut Region, log: Log, id: u64) -> Log {
-    let next = log.begin(id, b"connect, switch on, read ID");
+pub fn join(rt: &impl Print, hub: &mut Hub, region: &mut Region, log: Log, id: u64) -> Log {
+    let next = log.begin(rt, id, b"connect, switch on, read ID");
     let connected = hub::connect(hub, id);
     let switched = switch_on(hub, region, id);
     let r = hub::register_read(hub, id, 0x00, 4);
     print::value(
+        rt,
         larger(connected.number, larger(switched, r.number)),
         r.value,
     );
@@ -83,22 +84,23 @@ pub fn join(hub: &mut Hub, region: &mut Region, log: Log, id: u64) -> Log {
 }
 
 // Bit 0 of Privileged Control is one-shot mode.
-pub fn one_shot(hub: &mut Hub, log: Log, on: u32) -> Log {
-    let next = log.begin(ORDERS, b"write Privileged Control, read it");
+pub fn one_shot(rt: &impl Print, hub: &mut Hub, log: Log, on: u32) -> Log {
+    let next = log.begin(rt, ORDERS, b"write Privileged Control, read it");
     let w = hub::configuration_write(hub, ORDERS, 0x43, 1, on);
     let r = hub::configuration_read(hub, ORDERS, 0x43, 1);
-    print::value(larger(w.number, r.number), r.value);
+    print::value(rt, larger(w.number, r.number), r.value);
     next
 }
 
-pub fn interrupt_control(hub: &Hub, log: Log) -> Log {
-    let next = log.begin(ORDERS, b"read Interrupt Control");
+pub fn interrupt_control(rt: &impl Print, hub: &Hub, log: Log) -> Log {
+    let next = log.begin(rt, ORDERS, b"read Interrupt Control");
     let r = hub::register_read(hub, ORDERS, 0x08, 4);
-    print::value(r.number, r.value);
+    print::value(rt, r.number, r.value);
     next
 }
 
 pub fn store(
+    rt: &impl Print,
     hub: &Hub,
     region: &mut Region,
     log: Log,
@@ -107,14 +109,15 @@ pub fn store(
     offset: u64,
     bytes: &[u8],
 ) -> Log {
-    let next = log.begin(id, what);
-    print::bytes(bytes);
+    let next = log.begin(rt, id, what);
+    print::bytes(rt, bytes);
     let r = hub::store(hub, region, id, offset, bytes);
-    print::answered(r.number);
+    print::answered(rt, r.number);
     next
 }
 
 pub fn load(
+    rt: &impl Print,
     hub: &Hub,
     region: &Region,
     log: Log,
@@ -123,70 +126,78 @@ pub fn load(
     offset: u64,
     buffer: &mut [u8],
 ) -> Log {
-    let next = log.begin(id, what);
+    let next = log.begin(rt, id, what);
     let r = hub::load(hub, region, id, offset, buffer);
-    print::loaded(r.number, buffer);
+    print::loaded(rt, r.number, buffer);
     next
 }
 
-pub fn ask(hub: &Hub, log: Log, id: u64, what: &[u8], offset: u64) -> Log {
-    let next = log.begin(id, what);
+pub fn ask(rt: &impl Print, hub: &Hub, log: Log, id: u64, what: &[u8], offset: u64) -> Log {
+    let next = log.begin(rt, id, what);
     let r = hub::section_question(hub, id, offset, 4096);
     let reply = r.reply;
     let section = r.section;
-    print::asked(reply.number, section.store);
+    print::asked(rt, reply.number, section.store);
     next
 }
 
 // The answer to a call that may ring, and its deliveries, which go into the log.
-fn served(hub: &Hub, log: Log, s: Served) -> Log {
+fn served(rt: &impl Print, hub: &Hub, log: Log, s: Served) -> Log {
     let reply = s.reply;
     let list = s.list;
-    print::served(reply.number, list);
+    print::served(rt, reply.number, list);
     log::with_all(hub, log, list)
 }
 
-fn write(hub: &mut Hub, region: &mut Region, log: Log, id: u64, offset: u64, value: u32) -> Log {
+fn write(
+    rt: &impl Print,
+    hub: &mut Hub,
+    region: &mut Region,
+    log: Log,
+    id: u64,
+    offset: u64,
+    value: u32,
+) -> Log {
     let s = hub::register_write(hub, region, RECORDS, id, offset, 4, value);
-    served(hub, log, s)
+    served(rt, hub, log, s)
 }
 
 // The customer presses 'order'.
-pub fn press(hub: &mut Hub, region: &mut Region, log: Log) -> Log {
-    let next = log.begin(TOUCH, b"press, ring orders with vector 1");
-    write(hub, region, next, TOUCH, 0x0C, 0x00020001)
+pub fn press(rt: &impl Print, hub: &mut Hub, region: &mut Region, log: Log) -> Log {
+    let next = log.begin(rt, TOUCH, b"press, ring orders with vector 1");
+    write(rt, hub, region, next, TOUCH, 0x0C, 0x00020001)
 }
 
 // A slab is cut for each order that was delivered, and their number announced.
-pub fn cut(hub: &mut Hub, region: &mut Region, log: Log) -> Log {
-    let next = log.begin(ORDERS, b"cut slabs, store State ");
+pub fn cut(rt: &impl Print, hub: &mut Hub, region: &mut Region, log: Log) -> Log {
+    let next = log.begin(rt, ORDERS, b"cut slabs, store State ");
     let slabs = log::got(next, ORDERS, 1) % 256;
-    print::decimal(slabs as u64);
-    write(hub, region, next, ORDERS, 0x10, slabs as u32)
+    print::decimal(rt, slabs as u64);
+    write(rt, hub, region, next, ORDERS, 0x10, slabs as u32)
 }
 
 // The planner announces that it is saving. A State that it holds already rings nobody.
-pub fn save(hub: &mut Hub, region: &mut Region, log: Log) -> Log {
-    let next = log.begin(PLANNER, b"save, store State 1");
-    write(hub, region, next, PLANNER, 0x10, 1)
+pub fn save(rt: &impl Print, hub: &mut Hub, region: &mut Region, log: Log) -> Log {
+    let next = log.begin(rt, PLANNER, b"save, store State 1");
+    write(rt, hub, region, next, PLANNER, 0x10, 1)
 }
 
 // After a delivery in one-shot mode: interrupts on again.
-pub fn rearm(hub: &mut Hub, region: &mut Region, log: Log) -> Log {
-    let next = log.begin(ORDERS, b"write 1 to Interrupt Control");
-    write(hub, region, next, ORDERS, 0x08, 1)
+pub fn rearm(rt: &impl Print, hub: &mut Hub, region: &mut Region, log: Log) -> Log {
+    let next = log.begin(rt, ORDERS, b"write 1 to Interrupt Control");
+    write(rt, hub, region, next, ORDERS, 0x08, 1)
 }
 
-pub fn reset(hub: &mut Hub, region: &mut Region, log: Log, id: u64) -> Log {
-    let next = log.begin(HOST, b"reset ");
-    print::name(id);
+pub fn reset(rt: &impl Print, hub: &mut Hub, region: &mut Region, log: Log, id: u64) -> Log {
+    let next = log.begin(rt, HOST, b"reset ");
+    print::name(rt, id);
     let s = hub::reset(hub, region, RECORDS, id);
-    served(hub, next, s)
+    served(rt, hub, next, s)
 }
 
-pub fn disconnect(hub: &mut Hub, region: &mut Region, log: Log, id: u64) -> Log {
-    let next = log.begin(HOST, b"disconnect ");
-    print::name(id);
+pub fn disconnect(rt: &impl Print, hub: &mut Hub, region: &mut Region, log: Log, id: u64) -> Log {
+    let next = log.begin(rt, HOST, b"disconnect ");
+    print::name(rt, id);
     let s = hub::disconnect(hub, region, RECORDS, id);
-    served(hub, next, s)
+    served(rt, hub, next, s)
 }

@@ -6,7 +6,7 @@ use device::{Delivery, PeerId, Vector};
 // More than a run has.
 const ROOM: usize = 32;
 
-#[derive(Drop)]
+#[derive(Clone, Copy)]
 pub struct Log {
     pub steps: u64,
     pub count: usize,
@@ -32,9 +32,9 @@ impl Log {
     }
 
     // The next step's line: its number, who acts, and what is done. The number has three digits at most.
-    pub fn begin(self, who: u64, what: &[u8]) -> Self {
+    pub fn begin(self, rt: &impl Print, who: u64, what: &[u8]) -> Self {
         let step = self.steps % 999 + 1;
-        print::start(step, who, what);
+        print::start(rt, step, who, what);
         let mut next = self;
         next.steps = step;
         next
@@ -94,23 +94,23 @@ pub fn got(log: Log, target: u64, least: u16) -> usize {
 }
 
 // All deliveries that a guest got, in order.
-fn messages(log: Log, target: u64) {
+fn messages(rt: &impl Print, log: Log, target: u64) {
     let count = log.count;
     let records = log.records;
     let mut k = 0;
     while k < ROOM {
         if (k < count) & is_to(records[k], target) {
-            print::message(records[k]);
+            print::message(rt, records[k]);
         }
         k += 1;
     }
 }
 
-pub fn summary(log: Log, target: u64) {
-    print::name(target);
-    print::text(b" got ");
-    print::decimal(got(log, target, 0) as u64);
-    print::text(b":");
-    messages(log, target);
-    print::text(b"\n");
+pub fn summary(rt: &impl Print, log: Log, target: u64) {
+    print::name(rt, target);
+    print::text(rt, b" got ");
+    print::decimal(rt, got(log, target, 0) as u64);
+    print::text(rt, b":");
+    messages(rt, log, target);
+    print::text(rt, b"\n");
 }

@@ -1,34 +1,34 @@
 // The parts of a line.
 use deliveries::Deliveries;
 use device::{Delivery, Vector};
-use libc::STDOUT_FILENO;
 
-pub fn text(s: &[u8]) {
-    io::write_all(STDOUT_FILENO, s);
+// A write that fails is let go, and the program goes on.
+pub fn text(rt: &impl Print, s: &[u8]) {
+    let _ = rt.write_all(s);
 }
 
-pub fn decimal(n: u64) {
-    io::print_decimal(STDOUT_FILENO, n);
+pub fn decimal(rt: &impl Print, n: u64) {
+    let _ = rt.print(n);
 }
 
 // The guests by their ids; the host has none.
-pub fn name(id: u64) {
+pub fn name(rt: &impl Print, id: u64) {
     match id {
-        0 => text(b"touch"),
-        1 => text(b"planner"),
-        2 => text(b"orders"),
-        3 => text(b"card"),
-        _ => text(b"host"),
+        0 => text(rt, b"touch"),
+        1 => text(rt, b"planner"),
+        2 => text(rt, b"orders"),
+        3 => text(rt, b"card"),
+        _ => text(rt, b"host"),
     }
 }
 
 // The start of a line.
-pub fn start(step: u64, who: u64, what: &[u8]) {
-    decimal(step);
-    text(b" ");
-    name(who);
-    text(b": ");
-    text(what);
+pub fn start(rt: &impl Print, step: u64, who: u64, what: &[u8]) {
+    decimal(rt, step);
+    text(rt, b" ");
+    name(rt, who);
+    text(rt, b": ");
+    text(rt, what);
 }
 
 fn digit(n: u64) -> u8 {
@@ -37,102 +37,102 @@ fn digit(n: u64) -> u8 {
 }
 
 // The lowest byte and the lowest four bytes in hexadecimal.
-fn byte(n: u64) {
-    text(&[digit(n / 16), digit(n)]);
+fn byte(rt: &impl Print, n: u64) {
+    text(rt, &[digit(n / 16), digit(n)]);
 }
 
-fn word(n: u64) {
-    byte(n / 0x1000000);
-    byte(n / 0x10000);
-    byte(n / 0x100);
-    byte(n);
+fn word(rt: &impl Print, n: u64) {
+    byte(rt, n / 0x1000000);
+    byte(rt, n / 0x10000);
+    byte(rt, n / 0x100);
+    byte(rt, n);
 }
 
 // Vector, address and data of a delivery.
-pub fn message(d: Delivery) {
+pub fn message(rt: &impl Print, d: Delivery) {
     let vector = d.vector;
     let address = d.address;
-    text(b" (vector ");
-    decimal(vector.0 as u64);
-    text(b", ");
+    text(rt, b" (vector ");
+    decimal(rt, vector.0 as u64);
+    text(rt, b", ");
     if address > 0xFFFFFFFF {
-        word(address / 0x100000000);
+        word(rt, address / 0x100000000);
     }
-    word(address);
-    text(b"h, ");
-    word(d.payload as u64);
-    text(b"h)");
+    word(rt, address);
+    text(rt, b"h, ");
+    word(rt, d.payload as u64);
+    text(rt, b"h)");
 }
 
-fn answer(number: u32) {
-    text(b": answer ");
-    decimal(number as u64);
+fn answer(rt: &impl Print, number: u32) {
+    text(rt, b": answer ");
+    decimal(rt, number as u64);
 }
 
 // The end of a line: an answer alone, with the value of a read, the right to store, or the bytes of a load.
-pub fn answered(number: u32) {
-    answer(number);
-    text(b"\n");
+pub fn answered(rt: &impl Print, number: u32) {
+    answer(rt, number);
+    text(rt, b"\n");
 }
 
-pub fn value(number: u32, read: u32) {
-    answer(number);
-    text(b", value ");
-    decimal(read as u64);
-    text(b"\n");
+pub fn value(rt: &impl Print, number: u32, read: u32) {
+    answer(rt, number);
+    text(rt, b", value ");
+    decimal(rt, read as u64);
+    text(rt, b"\n");
 }
 
-pub fn asked(number: u32, store: bool) {
-    answer(number);
+pub fn asked(rt: &impl Print, number: u32, store: bool) {
+    answer(rt, number);
     if store {
-        text(b", may store\n");
+        text(rt, b", may store\n");
     } else {
-        text(b", may not store\n");
+        text(rt, b", may not store\n");
     }
 }
 
-pub fn loaded(number: u32, buffer: &[u8]) {
-    answer(number);
-    bytes(buffer);
-    text(b"\n");
+pub fn loaded(rt: &impl Print, number: u32, buffer: &[u8]) {
+    answer(rt, number);
+    bytes(rt, buffer);
+    text(rt, b"\n");
 }
 
-fn delivery(target: u8, vector: Vector) {
-    name(target as u64);
-    text(b" vector ");
-    decimal(vector.0 as u64);
+fn delivery(rt: &impl Print, target: u8, vector: Vector) {
+    name(rt, target as u64);
+    text(rt, b" vector ");
+    decimal(rt, vector.0 as u64);
 }
 
 // The deliveries of a call, in ring order.
-fn delivered(list: Deliveries) {
+fn delivered(rt: &impl Print, list: Deliveries) {
     let count = list.count;
     let vector = list.vector;
     let targets = list.targets;
     if count == 0 {
-        text(b"nothing");
+        text(rt, b"nothing");
     }
     let mut k = 0;
     while k < device::MAX_PEERS {
         if k < count {
-            comma(k);
-            delivery(targets[k], vector);
+            comma(rt, k);
+            delivery(rt, targets[k], vector);
         }
         k += 1;
     }
 }
 
 // The end of a line of a call that may ring.
-pub fn served(number: u32, list: Deliveries) {
-    answer(number);
-    text(b", delivered: ");
-    delivered(list);
-    text(b"\n");
+pub fn served(rt: &impl Print, number: u32, list: Deliveries) {
+    answer(rt, number);
+    text(rt, b", delivered: ");
+    delivered(rt, list);
+    text(rt, b"\n");
 }
 
 // Between the items of a list.
-fn comma(k: usize) {
+fn comma(rt: &impl Print, k: usize) {
     if k > 0 {
-        text(b", ");
+        text(rt, b", ");
     }
 }
 
@@ -140,12 +140,12 @@ fn wide(b: u8) -> u64 {
     b as u64
 }
 
-pub fn bytes(b: &[u8]) {
-    text(b", bytes");
+pub fn bytes(rt: &impl Print, b: &[u8]) {
+    text(rt, b", bytes");
     let mut k = 0;
     while k < b.len() {
-        text(b" ");
-        decimal(wide(b[k]));
+        text(rt, b" ");
+        decimal(rt, wide(b[k]));
         k += 1;
     }
 }

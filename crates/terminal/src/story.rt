@@ -13,18 +13,19 @@ const TOUCH_OUTPUT: u64 = 8192;
 const PLANNER_OUTPUT: u64 = 12288;
 
 // Four guests, with one-shot mode at orders off (0) or on (1).
-fn prepare(hub: &mut Hub, region: &mut Region, one_shot: u32) -> Log {
-    let mut log = acts::set_up(hub, region, Log::new());
-    log = acts::join(hub, region, log, TOUCH);
-    log = acts::join(hub, region, log, PLANNER);
-    log = acts::join(hub, region, log, ORDERS);
-    log = acts::join(hub, region, log, CARD);
-    acts::one_shot(hub, log, one_shot)
+fn prepare(rt: &impl Print, hub: &mut Hub, region: &mut Region, one_shot: u32) -> Log {
+    let mut log = acts::set_up(rt, hub, region, Log::new());
+    log = acts::join(rt, hub, region, log, TOUCH);
+    log = acts::join(rt, hub, region, log, PLANNER);
+    log = acts::join(rt, hub, region, log, ORDERS);
+    log = acts::join(rt, hub, region, log, CARD);
+    acts::one_shot(rt, hub, log, one_shot)
 }
 
 // The basket holds the lengths of two pieces; one slab is to have both.
-fn basket(hub: &Hub, region: &mut Region, log: Log) -> Log {
+fn basket(rt: &impl Print, hub: &Hub, region: &mut Region, log: Log) -> Log {
     acts::store(
+        rt,
         hub,
         region,
         log,
@@ -40,9 +41,10 @@ fn length(a: u8, b: u8) -> u8 {
 }
 
 // The planner adds the lengths up.
-fn plan(hub: &Hub, region: &mut Region, log: Log) -> Log {
+fn plan(rt: &impl Print, hub: &Hub, region: &mut Region, log: Log) -> Log {
     let mut pieces = [0u8; 2];
     let next = acts::load(
+        rt,
         hub,
         region,
         log,
@@ -52,6 +54,7 @@ fn plan(hub: &Hub, region: &mut Region, log: Log) -> Log {
         &mut pieces,
     );
     acts::store(
+        rt,
         hub,
         region,
         next,
@@ -63,9 +66,10 @@ fn plan(hub: &Hub, region: &mut Region, log: Log) -> Log {
 }
 
 // The orders guest takes the length, and cuts.
-fn order(hub: &mut Hub, region: &mut Region, log: Log) -> Log {
+fn order(rt: &impl Print, hub: &mut Hub, region: &mut Region, log: Log) -> Log {
     let mut whole = [0u8; 1];
     let next = acts::load(
+        rt,
         hub,
         region,
         log,
@@ -74,13 +78,14 @@ fn order(hub: &mut Hub, region: &mut Region, log: Log) -> Log {
         PLANNER_OUTPUT,
         &mut whole,
     );
-    acts::cut(hub, region, next)
+    acts::cut(rt, hub, region, next)
 }
 
 // The card terminal reads how many slabs were cut in the State Table, and leaves what it charged in R/W.
-fn pay(hub: &Hub, region: &mut Region, log: Log) -> Log {
+fn pay(rt: &impl Print, hub: &Hub, region: &mut Region, log: Log) -> Log {
     let mut state = [0u8; 4];
     let next = acts::load(
+        rt,
         hub,
         region,
         log,
@@ -90,6 +95,7 @@ fn pay(hub: &Hub, region: &mut Region, log: Log) -> Log {
         &mut state,
     );
     acts::store(
+        rt,
         hub,
         region,
         next,
@@ -101,8 +107,9 @@ fn pay(hub: &Hub, region: &mut Region, log: Log) -> Log {
 }
 
 // A guest may not store to another's output section.
-fn refused_store(hub: &Hub, region: &mut Region, log: Log) -> Log {
+fn refused_store(rt: &impl Print, hub: &Hub, region: &mut Region, log: Log) -> Log {
     let next = acts::ask(
+        rt,
         hub,
         log,
         TOUCH,
@@ -110,6 +117,7 @@ fn refused_store(hub: &Hub, region: &mut Region, log: Log) -> Log {
         PLANNER_OUTPUT,
     );
     acts::store(
+        rt,
         hub,
         region,
         next,
@@ -120,59 +128,59 @@ fn refused_store(hub: &Hub, region: &mut Region, log: Log) -> Log {
     )
 }
 
-fn double_tap(hub: &mut Hub, region: &mut Region, log: Log) -> Log {
-    let mut next = acts::press(hub, region, log);
-    next = acts::press(hub, region, next);
-    acts::interrupt_control(hub, next)
+fn double_tap(rt: &impl Print, hub: &mut Hub, region: &mut Region, log: Log) -> Log {
+    let mut next = acts::press(rt, hub, region, log);
+    next = acts::press(rt, hub, region, next);
+    acts::interrupt_control(rt, hub, next)
 }
 
-fn sale(hub: &mut Hub, region: &mut Region, log: Log) -> Log {
-    let mut next = plan(hub, region, log);
-    next = double_tap(hub, region, next);
-    next = order(hub, region, next);
-    pay(hub, region, next)
+fn sale(rt: &impl Print, hub: &mut Hub, region: &mut Region, log: Log) -> Log {
+    let mut next = plan(rt, hub, region, log);
+    next = double_tap(rt, hub, region, next);
+    next = order(rt, hub, region, next);
+    pay(rt, hub, region, next)
 }
 
 // The guest has handled its order: the next press is a new one.
-fn second_sale(hub: &mut Hub, region: &mut Region, log: Log) -> Log {
-    let mut next = acts::rearm(hub, region, log);
-    next = acts::press(hub, region, next);
-    next = acts::cut(hub, region, next);
-    acts::rearm(hub, region, next)
+fn second_sale(rt: &impl Print, hub: &mut Hub, region: &mut Region, log: Log) -> Log {
+    let mut next = acts::rearm(rt, hub, region, log);
+    next = acts::press(rt, hub, region, next);
+    next = acts::cut(rt, hub, region, next);
+    acts::rearm(rt, hub, region, next)
 }
 
 // The planner saves twice, and the others are rung once.
-fn saves(hub: &mut Hub, region: &mut Region, log: Log) -> Log {
-    let next = acts::save(hub, region, log);
-    acts::save(hub, region, next)
+fn saves(rt: &impl Print, hub: &mut Hub, region: &mut Region, log: Log) -> Log {
+    let next = acts::save(rt, hub, region, log);
+    acts::save(rt, hub, region, next)
 }
 
 // The deliveries that each guest got.
-fn report(log: Log) {
-    log::summary(log, TOUCH);
-    log::summary(log, PLANNER);
-    log::summary(log, ORDERS);
-    log::summary(log, CARD);
+fn report(rt: &impl Print, log: Log) {
+    log::summary(rt, log, TOUCH);
+    log::summary(rt, log, PLANNER);
+    log::summary(rt, log, ORDERS);
+    log::summary(rt, log, CARD);
 }
 
 // Both taps are delivered: two slabs for one order.
-pub fn first(hub: &mut Hub, region: &mut Region) {
-    let mut log = prepare(hub, region, 0);
-    log = basket(hub, region, log);
-    log = refused_store(hub, region, log);
-    log = sale(hub, region, log);
-    log = saves(hub, region, log);
-    log = acts::reset(hub, region, log, PLANNER);
-    report(log);
+pub fn first(rt: &impl Print, hub: &mut Hub, region: &mut Region) {
+    let mut log = prepare(rt, hub, region, 0);
+    log = basket(rt, hub, region, log);
+    log = refused_store(rt, hub, region, log);
+    log = sale(rt, hub, region, log);
+    log = saves(rt, hub, region, log);
+    log = acts::reset(rt, hub, region, log, PLANNER);
+    report(rt, log);
 }
 
 // The second tap is lost; a press after the guest has re-armed is delivered. The touch guest leaves with State 0,
 // so nobody is rung.
-pub fn second(hub: &mut Hub, region: &mut Region) {
-    let mut log = prepare(hub, region, 1);
-    log = basket(hub, region, log);
-    log = sale(hub, region, log);
-    log = second_sale(hub, region, log);
-    log = acts::disconnect(hub, region, log, TOUCH);
-    report(log);
+pub fn second(rt: &impl Print, hub: &mut Hub, region: &mut Region) {
+    let mut log = prepare(rt, hub, region, 1);
+    log = basket(rt, hub, region, log);
+    log = sale(rt, hub, region, log);
+    log = second_sale(rt, hub, region, log);
+    log = acts::disconnect(rt, hub, region, log, TOUCH);
+    report(rt, log);
 }

@@ -1,5 +1,5 @@
 //! Times the player program on a long log, beside players in Rust: `playback [PROGRAM]`, where the program is
-//! target/bin/player unless another is named. Each is a process of its own that reads the log from a file.
+//! crates/player/out/player unless another is named. Each is a process of its own that reads the log from a file.
 
 use std::fs::{self, File};
 use std::io::{self, Read};
@@ -24,7 +24,7 @@ fn main() -> ExitCode {
     let done = match &arguments.iter().map(String::as_str).collect::<Vec<_>>()[..] {
         // How the program starts itself.
         ["--play", player] if PLAYERS.contains(player) => play(player),
-        [] => measure(&Path::new(env!("CARGO_MANIFEST_DIR")).join("../../target/bin/player")),
+        [] => measure(&Path::new(env!("CARGO_MANIFEST_DIR")).join("../../crates/player/out/player")),
         [program] if !program.starts_with('-') => measure(Path::new(program)),
         _ => {
             eprintln!("usage: playback [PROGRAM]");
@@ -59,7 +59,7 @@ impl Drop for Stored {
 
 fn measure(program: &Path) -> io::Result<()> {
     if !program.is_file() {
-        let hint = "`rt check player` in the repository's root builds it";
+        let hint = "`rt run` in crates/player builds it";
         return Err(io::Error::other(format!("no program {}: {hint}", program.display())));
     }
     let records = Logs::new(2, MOST_PEERS).next(RECORDS).records;

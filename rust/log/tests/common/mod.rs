@@ -24,10 +24,11 @@ pub fn root() -> PathBuf {
 
 /// The built program.
 fn program() -> PathBuf {
-    let path = std::env::var_os("IVSHMEM_PLAYER").map_or_else(|| root().join("target/bin/player"), PathBuf::from);
+    let path =
+        std::env::var_os("IVSHMEM_PLAYER").map_or_else(|| root().join("crates/player/out/player"), PathBuf::from);
     assert!(
         path.is_file(),
-        "no program {}: `rt check player` in the repository's root builds it, or name one in IVSHMEM_PLAYER",
+        "no program {}: `rt run` in crates/player builds it, or name one in IVSHMEM_PLAYER",
         path.display()
     );
     path
