@@ -59,7 +59,7 @@ def atom_before(text):
                 return k
         return 0
     m = re.search(r"[\wℕℤ₀'.-]+$", text)
-    if not m:
+    if not m or not re.search(r"[\wℕℤ]", m.group(0)):
         return len(text)
     return atom_before(text[: m.start()]) if m.group(0).startswith(".") and text[: m.start()].endswith(")") else m.start()
 
@@ -81,7 +81,7 @@ def atoms_before(text):
         before = text[: at - 1]
         start = atom_before(before)
         word = before[start:]
-        if start == len(before) or word in ("in", "then", "else", "let", "record", "rw", "if"):
+        if start == len(before) or word.endswith(".") or word in ("in", "then", "else", "let", "record", "rw", "if"):
             break
         at = start
     return at
@@ -113,7 +113,7 @@ def spelled(text, to, clause):
     """One line, or a part of one, in today's spelling."""
     if not clause:
         return text
-    text = re.sub(r" ?[⌜⌝]", "", text)
+    text = re.sub(r" ?[⌜⌝]", "", text).replace("′", "'")
     text = re.sub(r"λ r\. ?", "", text)
     text = re.sub(r"(?<![\w'-])r(?![\w'-])", "result", text) if clause == "rt" else text
     text = re.sub(r"\b(?:Prim\.Native\.Nat|mathlib\.Core\.\w+)\._(\S+?)_(?![\w_])", r"Rattle.std.specs.Prelude.◌\1◌", text)

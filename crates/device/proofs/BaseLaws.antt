@@ -36,7 +36,7 @@ well_placed s = (eqb (s.base % 4096) 0 && leb 0x100000 s.base) && leb (s.base + 
 own : (s : Settings) → accepted s ≡ true → well_placed s ≡ true
 unfolding tests
 own s e =
-    let above : 0x100000 ≤ s.base = omega (arith, leb-true min_base s.base (each s e 11)) in
+    let above : 0x100000 ≤ s.base = omega (arith, leb-true min_base _ (each s e 11)) in
     rw (each s e 10, le-leb 0x100000 s.base above, each s e 12)
 
 lowest : (s : Settings) → accepted s ≡ true → well_placed (at 0x100000 s) ≡ true

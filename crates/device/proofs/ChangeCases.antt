@@ -3,7 +3,7 @@
 -- is compared; here are regions that hold another word too, as a host may lend them.
 use Prim.Native.Nat.{ℕ}
 use mathlib.Core.List.{List, [], ◌∷◌, ◌++◌}
-use mathlib.Core.Path.{◌≡◌, refl}
+use mathlib.Core.Path.{refl}
 use lib.ListN.{take, drop, replicate}
 use Rattle.common.specs.Bytes.{bytes}
 use Rattle.common.specs.Tests.{first, every, below}

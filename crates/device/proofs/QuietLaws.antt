@@ -11,7 +11,7 @@ use Rattle.device.specs.Call.Act.{register_read, register_write, msix_read, msix
 use Rattle.device.specs.Effect.{effect, Operation}
 use Rattle.device.specs.Refusal.{refusal}
 use Rattle.device.specs.Registers.{memory_on}
-use Rattle.device.specs.Step.{run, run_all, step_by, step, effect_in}
+use Rattle.device.specs.Step.{run, run_all, step_by, step}
 use Rattle.device.specs.World.{Slot, World}
 use Rattle.device.proofs.StepLaws.{never}
 

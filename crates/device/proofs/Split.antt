@@ -1,7 +1,7 @@
 -- The number of an access to configuration space, exactly; and that one which is not refused with 6 or 7 is the accesses of its bytes:
 -- they have its number, a read gives their values and a write leaves what they leave one after the other. Shown once over the width.
 use Prim.Native.Nat.{ℕ, zero, suc, ◌+◌, ◌%◌, ◌<◌, ◌≤◌}
-use mathlib.Core.Bool.{Bool, true, false, cond, not}
+use mathlib.Core.Bool.{Bool, true, false, cond}
 use mathlib.Core.List.{List, ◌∷◌}
 use mathlib.Core.Path.{◌≡◌, refl, sym, ap, subst, ◌∙◌}
 use native.Mathlib.Nat.{zero-div}

@@ -1,5 +1,7 @@
 -- `server::join` meets its contract.
+use Prim.Native.Nat.{◌≤◌, ◌<◌}
 use mathlib.Core.Path.{sym, ◌∙◌}
+use native.Mathlib.Omega.{arith}
 use lib.ListN.{length}
 use Rattle.reader.specs.Sizes.{ids}
 use Rattle.server.proofs.FreeLaws.{lowest_is_free}
@@ -22,7 +24,8 @@ join_as-requires c =
     let e = c.refusal-number.ensures in
     let z = sym e ∙ c.if-number-ne0.false in
     let f = c.lowest_free-id.ensures in
-    (in_range_lem s (length l) z, c.if-id-lt-IDS.true, rw f (lowest_is_free s.joined).free, has_room s (length l) z)
+    let free : c.lowest_free-id.result < ids = omega arith in
+    (in_range_lem s (length l) z, free, rw f (lowest_is_free s.joined).free, has_room s (length l) z)
 
 pub returns-then-id-lt-IDS : goal.returns-then-id-lt-IDS
 unfolding ids
@@ -32,7 +35,8 @@ returns-then-id-lt-IDS c =
     let e = c.refusal-number.ensures in
     let z = sym e ∙ c.if-number-ne0.false in
     let f = c.lowest_free-id.ensures in
-    rw (join_goes_on s (length l) z, joins_free s (rw f at c.if-id-lt-IDS.true)) (rw f at c.join_as.ensures)
+    let free : c.lowest_free-id.result < ids = omega arith in
+    rw (join_goes_on s (length l) z, joins_free s (rw f at free)) (rw f at c.join_as.ensures)
 
 pub returns : goal.returns
 unfolding ids
@@ -41,5 +45,6 @@ returns c =
     let l = c.args.out.now in
     let e = c.refusal-number.ensures in
     let z = sym e ∙ c.if-number-ne0.false in
-    rw (join_goes_on s (length l) z, joins_full s (rw c.lowest_free-id.ensures at c.if-id-lt-IDS.false), c.refused-2.ensures)
+    let full : ids ≤ c.lowest_free-id.result = omega arith in
+    rw (join_goes_on s (length l) z, joins_full s (rw c.lowest_free-id.ensures at full), c.refused-2.ensures)
     (serves_refused 12 s l)
