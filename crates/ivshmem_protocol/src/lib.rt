@@ -1,5 +1,5 @@
-// The library with which a host reads what the server of the older ivshmem device sends, or is that server: numbers are plain and
-// memory is lent.
+// The calls with which a host reads what the server of the older ivshmem device sends, or is that server;
+// crates/ivshmem_protocol_c exports them. Numbers are plain and memory is lent.
 #![tactic(auto)]
 
 ghost use Rattle.std.specs.Prelude.{◌≡◌, length};
