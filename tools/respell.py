@@ -14,7 +14,7 @@ import re
 BESIDE = ["maximumPeers", "regionBefore", "regionAfter", "hubAfter", "outAfter", "heldAfter", "tableAfter", "recordsAfter"]
 
 NAME = r"[A-Za-zℕℤ_][A-Za-z0-9_'ℕℤ-]*[A-Za-z0-9_'ℕℤ]|[A-Za-zℕℤ_]"
-DECLARED = re.compile(r"^ *(?:pub |abbrev |unfoldable )*(" + NAME + r")(?: \{[^}]*\}| \([^)]*\))* *: ")
+DECLARED = re.compile(r"^ *(?:pub |abbrev |unfoldable )*(" + NAME + r")(?: \{[^}]*\}| \([^)]*\))* *:(?: |$)")
 HEADED = re.compile(r"^ *(?:pub |abbrev |unfoldable )*(?:data|record) (" + NAME + r")")
 
 

@@ -177,10 +177,10 @@ module _ (ws : List ℕ) (lent : Lending) (id at n r : ℕ)
       positive_length : eqb n 0 ≡ false → 0 < n
       positive_length f = let h : n ≡ 0 → ⊥ = eqb-false _ _ f in omega arith
 
-  pub range-facts :
+  pub range_facts :
       (r ≡ first (admission (hub_of ws) lent id ++ range_rows (hub_of ws).settings at n))
       × ((r ≡ 0 → Admitted ws lent id) × (r ≡ 0 → InSection (hub_of ws).settings at n))
-  range-facts = (
+  range_facts = (
     e,
     (
       λ z.
@@ -222,8 +222,8 @@ store_facts ws lent id at n r e =
     (store_rows (hub_of ws).settings id at n) refl (sym e ∙ z)).0 in (
       e,
       (
-        λ z. (range-facts ws lent id at n 0 (range z)).1.0 refl,
-        λ z. (range-facts ws lent id at n 0 (range z)).1.1 refl,
+        λ z. (range_facts ws lent id at n 0 (range z)).1.0 refl,
+        λ z. (range_facts ws lent id at n 0 (range z)).1.1 refl,
       ),
     )
 

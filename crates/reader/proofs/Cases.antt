@@ -248,9 +248,9 @@ calls =
     right
     ++ (wrong_version ++ (wrong_id ++ (wrong_memory ++ (wrong_peer ++ (after_close ++ (tabulate 9 begun ++ (tabulate 9 ended ++ (behind ∷ (refusals ++ limits)))))))))
 
-pub the-cases :
+pub the_cases :
     (map (λ c. heard c.vectors start c.records) streams ≡ map (λ c. c.says) streams)
     × (map (λ c. read c.vectors c.before c.input) calls ≡ map (λ c. c.after) calls)
 unfolding streams calls heard read accepted refusal good first every below tabulate ids most_vectors record_in signed number bytes
     read_record is_version is_id id_of is_memory version_step id_step memory_step adds removes peers_step
-the-cases = (refl, refl)
+the_cases = (refl, refl)

@@ -80,25 +80,25 @@ module _ (ws : List ℕ) (s : Settings) (e : s ≡ (hub_of ws).settings) where
   whole_run n t = let z : n - 0 ≡ n = omega arith in rw z (below_ext n _ _ (λ k h. rw (zero-add k)))
 
   -- fixed bits everywhere, and reset values where a peer is absent
-  pub few-absent :
+  pub few_absent :
       ((below s.peers (λ k. peer_fixed s (slot_at (hub_of ws) k).peer)
       && below s.peers (λ k. below (hub_of ws).settings.vectors (λ v. entry_fixed (entry_at (slot_at (hub_of ws) k) v))))
       && below s.peers (absent_slot ws))
       ≡ below s.peers (λ i. slot_sound s (slot_at (hub_of ws) i))
   unfolding peer_sound entry_sound
-  few-absent =
+  few_absent =
       and_assoc (below s.peers (λ k. peer_fixed s (slot_at (hub_of ws) k).peer)) _ (below s.peers (absent_slot ws))
       ∙ ap (λ (b : Bool). below s.peers (λ k. peer_fixed s (slot_at (hub_of ws) k).peer) && b) (sym (below_both s.peers _ (absent_slot ws)))
       ∙ slots_by _ _
       (λ k h. fixed_and_absent s (slot_at (hub_of ws) k).peer (hub_of ws).settings.vectors (entry_at (slot_at (hub_of ws) k)) (joined ws k))
 
   -- fixed bits in all registers, reset values in those of absent peers, and the entries run by run
-  pub many-absent :
+  pub many_absent :
       (below s.peers (λ k. peer_fixed s (slot_at (hub_of ws) k).peer)
       && (below s.peers (absent_registers ws) && below s.peers (entries_sound (hub_of ws))))
       ≡ below s.peers (λ i. slot_sound s (slot_at (hub_of ws) i))
   unfolding peer_sound entry_sound
-  many-absent =
+  many_absent =
       ap (λ (b : Bool). below s.peers (λ k. peer_fixed s (slot_at (hub_of ws) k).peer) && b) (sym (below_both s.peers (absent_registers ws) _))
       ∙ slots_by _ _
       (λ k h. fixed_and_registers s (slot_at (hub_of ws) k).peer (hub_of ws).settings.vectors (entry_at (slot_at (hub_of ws) k)) (joined ws k))

@@ -4,7 +4,7 @@ use native.Mathlib.Omega.{arith}
 use Rattle.device.specs.declared.Settings.{Settings}
 use Rattle.device.specs.Sound.{entry_fixed}
 use Rattle.soundness.proofs.AbsentLaws.{counted}
-use Rattle.soundness.proofs.WholeLaws.{whole_run, few-absent, many-absent}
+use Rattle.soundness.proofs.WholeLaws.{whole_run, few_absent, many_absent}
 use Rattle.soundness.proofs.whole.mixed_sound.Goals as goal
 
 pub overflow_mul-seen : goal.overflow_mul-seen
@@ -30,10 +30,10 @@ absent_sound-absent-requires c = omega (arith, ap (λ (s : Settings). s.peers) c
 pub returns-then-peers-seen : goal.returns-then-peers-seen
 returns-then-peers-seen c =
     rw (c.peer_fixed-fixed.ensures, c.requires.passed.fixed, c.entries_fixed-entries.ensures, whole_run _ _ c.requires.same _ entry_fixed, c.absent_sound-absent.ensures)
-    (few-absent _ _ c.requires.same)
+    (few_absent _ _ c.requires.same)
 
 pub runs_sound-runs-requires : goal.runs_sound-runs-requires
 runs_sound-runs-requires c = omega (arith, ap (λ (s : Settings). s.peers) c.requires.same)
 
 pub returns : goal.returns
-returns c = rw (c.peer_fixed-fixed.ensures, c.requires.passed.fixed, c.runs_sound-runs.ensures) (many-absent _ _ c.requires.same)
+returns c = rw (c.peer_fixed-fixed.ensures, c.requires.passed.fixed, c.runs_sound-runs.ensures) (many_absent _ _ c.requires.same)
