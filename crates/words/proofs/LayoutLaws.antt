@@ -24,7 +24,7 @@ use Rattle.device.specs.Sizes.{max_peers, max_vectors}
 use Rattle.device.specs.World.{Hub, Slot, zero_slot, zero_entry, zero_hub, reset_slot, slot_at, entry_at, with_slot, with_peer, with_entry}
 use Rattle.words.specs.Layout.{hub_words, word, settings_of, peer_start, peer_of, entry_start, entry_of}
 use Rattle.words.specs.Layout.{slot_of, decoded, fits, hub_of, Known, KnownVector, Storable}
-use Rattle.words.specs.Parts.{settings_words, peer_from, entry_from, Copied, Filled, Set}
+use Rattle.words.specs.Parts.{settings_words, entry_words, peer_from, entry_from, Copied, Filled, Set}
 use Rattle.words.proofs.IndexLaws.{EntryPlace, entries_small, row_below, entry_place, entry_apart}
 use Rattle.words.proofs.PartLaws.{copied_at}
 
@@ -76,6 +76,9 @@ by_fits {P} ws there other = go (fits ws) refl
 pub known_sized : (ws : List ℕ) (i : ℕ) → Known ws i → Sized ws (word ws 0) (word ws 1)
 unfolding zero_hub
 known_sized ws i h = by_fits ws (λ z. z) (λ (e : hub_of ws ≡ zero_hub). absurd (not-suc-le-zero (rw e at h)))
+
+pub known_fits : (ws : List ℕ) (i : ℕ) → Known ws i → fits ws ≡ true
+known_fits ws i h = sized_fits (known_sized ws i h)
 
 -- and so do words with accepted settings
 pub accepted_fits : (ws : List ℕ) → accepted (hub_of ws).settings ≡ true → fits ws ≡ true
@@ -174,9 +177,6 @@ abbrev pub peer_words : Peer → List ℕ
 peer_words p =
     p.connected ∷ p.command ∷ p.bar0 ∷ p.bar1 ∷ p.privileged ∷ p.message ∷ p.interrupt ∷ p.state ∷ []
 
-abbrev pub entry_words : Entry → List ℕ
-entry_words e = e.low ∷ e.high ∷ e.payload ∷ e.control ∷ []
-
 -- a part is made of the table of its words, and the table is the part's words
 settings_table : (ws : List ℕ) → settings_of ws ≡ settings_of (tabulate 10 (word ws))
 unfolding settings_of tabulate
@@ -249,10 +249,10 @@ module _ (n m : ℕ) (a b : List ℕ) where
 
 -- the settings are stored in as many words as they ask for
 pub settings_put : (a b : List ℕ) (s : Settings) → Storable s → length b ≡ hub_words s.peers s.vectors
-    → Copied a b (λ r. 0 + r * 1) (settings_words s) 10 → Set a b s
+    → Copied a b (λ r. 0 + r) (settings_words s) 10 → Set a b s
 unfolding tabulate settings_of
 settings_put a b s small size stored =
-    let copied : Copied a b (λ r. r) (settings_words s) 10 = copied_at (λ r. omega arith) stored in
+    let copied : Copied a b (λ r. r) (settings_words s) 10 = copied_at zero-add stored in
     let e : settings_of b ≡ s =
     settings_table b ∙ ap settings_of (tabulate_ext 10 (word b) (word (settings_words s)) copied.there) ∙ settings_back s in
     let z : Sized b s.peers s.vectors =
@@ -281,11 +281,10 @@ module _ {n m : ℕ} (a b : List ℕ) (z : Sized a n m) (l : length b ≡ length
         slots = set_tabulate n (slot_of n m a) (slot_of n m b) i s h here others t;
       })
 
-  pub peer_put : (i : ℕ) (p : Peer) → i < n → Copied a b (λ r. peer_start i + r * 1) (peer_words p) 8
+  pub peer_put : (i : ℕ) (p : Peer) → i < n → Copied a b (λ r. peer_start i + r) (peer_words p) 8
       → hub_of b ≡ with_slot (hub_of a) i (with_peer (slot_at (hub_of a) i) p)
   unfolding slot_of
-  peer_put i p h stored =
-      let copied : Copied a b (λ r. peer_start i + r) (peer_words p) 8 = copied_at (λ r. omega arith) stored in
+  peer_put i p h copied =
       let entries : (j w : ℕ) → w < m → SameEntry n m a b j w = λ j w _ c _. copied.kept _ (omega arith) in
       rw (slot_at_lem z i h)
       (slot_put i (with_peer (slot_of n m a i) p) h (λ k l. copied.kept k (omega arith))

@@ -45,6 +45,10 @@ entry_from ws at step =
       control = word ws (at + 3 * step);
     }
 
+-- the four words of an entry
+abbrev pub entry_words : Entry → List ℕ
+entry_words e = e.low ∷ e.high ∷ e.payload ∷ e.control ∷ []
+
 -- the first n values stand at their places, and every other word is as it was
 pub record Copied (before after : List ℕ) (place : ℕ → ℕ) (values : List ℕ) (n : ℕ) : Type 0 where
   pub there : (r : ℕ) → r < n → word after (place r) ≡ word values r

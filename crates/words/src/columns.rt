@@ -8,58 +8,57 @@ ghost use Rattle.words.specs.Layout.{hub_of, word};
 ghost use Rattle.words.specs.Parts.{entry_from};
 ghost use Rattle.words.specs.Runs.{Run, Stands, run_of};
 
+use super::sizes::Counts;
+
 // Where the entries of a run of peers stand in the first column, how many they are, and how far the columns are apart.
-#[derive(Drop)]
+#[derive(Clone, Copy)]
 struct Places {
     start: usize,
     size: usize,
     column: usize,
 }
 
-fn run_places(hub: &[u32], from: usize, to: usize) -> Places
-    requires { Run hub.now from to }
-    ensures { Stands hub.now from to result }
-{
-    let n = super::sizes::count(hub, 0);
-    let m = super::sizes::count(hub, 1);
-    Places {
-        start: super::entries::entry_start(n, m, from, 0),
-        size: (to - from) * m,
-        column: n * m,
+impl Places {
+    fn of_run(hub: &[u32], from: usize, to: usize) -> Self
+        requires { Run hub.now from to }
+        ensures { Stands hub.now from to result }
+    {
+        let counts = Counts::stored(hub);
+        Places {
+            start: counts.entry_start(from, 0),
+            size: (to - from) * counts.vectors,
+            column: counts.column(),
+        }
     }
 }
 
 // No word of a run has a bit set but those of the masks, in the first column and in the last.
-fn words_only(hub: &[u32], start: usize, size: usize, column: usize, low: u32, control: u32) -> bool
-    requires { start + size + 3 * column ≤ length hub.now }
-    ensures { result ≡ below size (λ k. only low (word hub.now (start + k)) && only control (word hub.now (start + k + 3 * column))) }
+fn words_only(hub: &[u32], at: Places, low: u32, control: u32) -> bool
+    requires { at.start + at.size + 3 * at.column ≤ length hub.now }
+    ensures { result ≡ below at.size (λ k. only low (word hub.now (at.start + k)) && only control (word hub.now (at.start + k + 3 * at.column))) }
 {
     let mut lows = 0;
     let mut controls = 0;
-    let mut k = 0;
-    while k < size {
-        lows = lows | hub[start + k];
-        controls = controls | hub[start + k + 3 * column];
-        k += 1;
+    for k in 0..at.size {
+        lows |= hub[at.start + k];
+        controls |= hub[at.start + k + 3 * at.column];
     }
     ((lows & low) == lows) & ((controls & control) == controls)
 }
 
 // The words of a run hold their reset values, in all four columns.
-fn words_reset(hub: &[u32], start: usize, size: usize, column: usize) -> bool
-    requires { start + size + 3 * column ≤ length hub.now }
-    ensures { result ≡ below size (λ k. entry_reset (entry_from hub.now (start + k) column)) }
+fn words_reset(hub: &[u32], at: Places) -> bool
+    requires { at.start + at.size + 3 * at.column ≤ length hub.now }
+    ensures { result ≡ below at.size (λ k. entry_reset (entry_from hub.now (at.start + k) at.column)) }
 {
     let mut faults = 0;
-    let mut k = 0;
-    while k < size {
-        let at = start + k;
+    for k in 0..at.size {
+        let low = at.start + k;
         faults = faults
-            | hub[at]
-            | hub[at + column]
-            | hub[at + 2 * column]
-            | (hub[at + 3 * column] ^ 1);
-        k += 1;
+            | hub[low]
+            | hub[low + at.column]
+            | hub[low + 2 * at.column]
+            | (hub[low + 3 * at.column] ^ 1);
     }
     faults == 0
 }
@@ -69,8 +68,7 @@ pub fn entries_only(hub: &[u32], from: usize, to: usize, low: u32, control: u32)
     requires { Run hub.now from to }
     ensures { result ≡ run_of (hub_of hub.now) from to (λ e. only low e.low && only control e.control) }
 {
-    let at = run_places(hub, from, to);
-    words_only(hub, at.start, at.size, at.column, low, control)
+    words_only(hub, Places::of_run(hub, from, to), low, control)
 }
 
 // Every entry of these peers holds its reset values.
@@ -78,6 +76,5 @@ pub fn entries_reset(hub: &[u32], from: usize, to: usize) -> bool
     requires { Run hub.now from to }
     ensures { result ≡ run_of (hub_of hub.now) from to entry_reset }
 {
-    let at = run_places(hub, from, to);
-    words_reset(hub, at.start, at.size, at.column)
+    words_reset(hub, Places::of_run(hub, from, to))
 }

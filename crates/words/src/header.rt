@@ -1,28 +1,15 @@
 // The first ten words: the settings.
-ghost use Rattle.std.specs.Prelude.{true, ◌≡◌, ◌+◌, ◌*◌, ◌^◌, ◌<◌, ◌≤◌, length, get_or};
+ghost use Rattle.std.specs.Prelude.{true, ◌≡◌, ◌+◌, ◌*◌, ◌^◌, ◌<◌, ◌≤◌, length};
 ghost use Rattle.words.specs.Layout.{hub_words, hub_of, fits, settings_of, Storable};
 ghost use Rattle.words.specs.Parts.{settings_words, Set};
 
 use device::Settings;
 
-fn widened(x: u32) -> u64
-    ensures { result ≡ x }
-{
-    x as u64
-}
-
-fn wide(hub: &[u32], k: usize) -> u64
-    requires { k < length hub.now }
-    ensures { result ≡ get_or hub.now k 0 }
-{
-    widened(hub[k])
-}
-
 // The number of which these are the low and the high word.
-fn joined(low: u32, high: u32) -> u64
+pub fn joined(low: u32, high: u32) -> u64
     ensures { result ≡ low + 2 ^ 32 * high }
 {
-    low as u64 + 4294967296 * (high as u64)
+    u64::from(low) + 4294967296 * u64::from(high)
 }
 
 fn settings_from(hub: &[u32]) -> Settings
@@ -30,15 +17,15 @@ fn settings_from(hub: &[u32]) -> Settings
     ensures { result ≡ settings_of hub.now }
 {
     Settings {
-        peers: wide(hub, 0),
-        vectors: wide(hub, 1),
-        table: wide(hub, 2),
-        common: wide(hub, 3),
-        output: wide(hub, 4),
+        peers: u64::from(hub[0]),
+        vectors: u64::from(hub[1]),
+        table: u64::from(hub[2]),
+        common: u64::from(hub[3]),
+        output: u64::from(hub[4]),
         base: joined(hub[5], hub[6]),
-        protocol: wide(hub, 7),
-        vendor: wide(hub, 8),
-        subsystem: wide(hub, 9),
+        protocol: u64::from(hub[7]),
+        vendor: u64::from(hub[8]),
+        subsystem: u64::from(hub[9]),
     }
 }
 
@@ -73,6 +60,5 @@ pub fn put_settings(hub: &mut [u32], s: Settings)
     requires small { Storable s }
     ensures { Set hub.old hub.new s }
 {
-    let values = settings_words(s);
-    super::parts::put_words(hub, 0, 1, &values);
+    hub[..10].copy_from_slice(&settings_words(s));
 }

@@ -11,8 +11,8 @@ mod sizes;
 mod slots;
 
 pub use columns::{entries_only, entries_reset};
-pub use entries::{entry, entry_at, put_entry};
-pub use header::{put_settings, settings};
+pub use entries::{Entries, entry, put_entry};
+pub use header::{joined, put_settings, settings};
 pub use peers::{peer, put_peer};
 pub use sizes::{Counts, counts_of, fits, hub_words};
 pub use slots::{put_fresh, put_reset, put_zero};

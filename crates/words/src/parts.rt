@@ -1,6 +1,6 @@
 // Several words of the hub at once.
 ghost use Rattle.std.specs.Prelude.{◌≡◌, ℕ, ◌+◌, ◌*◌, ◌<◌, ◌≤◌, length};
-ghost use Rattle.words.specs.Parts.{peer_from, entry_from, Copied, Filled};
+ghost use Rattle.words.specs.Parts.{peer_from, entry_from, entry_words, Copied};
 
 use device::{Entry, Peer};
 
@@ -32,27 +32,14 @@ pub fn entry_from(hub: &[u32], at: usize, step: usize) -> Entry
     }
 }
 
-// Stores the values from a place on, each a step further.
-pub fn put_words(hub: &mut [u32], at: usize, step: usize, values: &[u32])
+// Stores an entry's words from a place on, each a step further.
+pub fn put_entry(hub: &mut [u32], at: usize, step: usize, e: Entry)
     requires apart { 0 < step }
-    requires inside { (r : ℕ) → r < length values.now → at + r * step < length hub.old }
-    ensures { Copied hub.old hub.new (λ k. at + k * step) values.now (length values.now) }
+    requires inside { at + 3 * step < length hub.old }
+    ensures { Copied hub.old hub.new (λ k. at + k * step) (entry_words e) 4 }
 {
-    let mut k = 0;
-    while k < values.len() {
-        hub[at + k * step] = values[k];
-        k += 1;
-    }
-}
-
-// The same value in several words from a place on.
-pub fn fill(hub: &mut [u32], at: usize, size: usize, value: u32)
-    requires { at + size ≤ length hub.old }
-    ensures { Filled hub.old hub.new at value size }
-{
-    let mut k = 0;
-    while k < size {
-        hub[at + k] = value;
-        k += 1;
-    }
+    hub[at] = e.low;
+    hub[at + step] = e.high;
+    hub[at + 2 * step] = e.payload;
+    hub[at + 3 * step] = e.control;
 }

@@ -26,5 +26,6 @@ pub fn put_peer(hub: &mut [u32], i: usize, p: Peer)
         p.interrupt,
         p.state,
     ];
-    super::parts::put_words(hub, 10 + 8 * i, 1, &values);
+    let start = 10 + 8 * i;
+    hub[start..start + 8].copy_from_slice(&values);
 }

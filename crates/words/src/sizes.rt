@@ -1,14 +1,44 @@
 // How many words a hub has: the first two say how many peers and vectors there are.
-ghost use Rattle.std.specs.Prelude.{◌≡◌, ◌≤◌, ◌<◌, length};
+ghost use Rattle.std.specs.Prelude.{true, ◌≡◌, ◌+◌, ◌*◌, ◌≤◌};
 ghost use Rattle.device.specs.Sizes.{max_peers, max_vectors};
-ghost use Rattle.words.specs.Layout.{hub_words, hub_of, word};
+ghost use Rattle.words.specs.Layout.{hub_words, hub_of, entry_start};
 ghost use Rattle.words.specs.Layout;
 
-// A hub's numbers of peers and vectors.
-#[derive(Drop)]
+// A hub's numbers of peers and vectors: no more than a hub can have, so that no product of them wraps.
+#[derive(Clone, Copy)]
 pub struct Counts {
     pub peers: usize,
     pub vectors: usize,
+    ghost few: { peers ≤ max_peers },
+    ghost less: { vectors ≤ max_vectors },
+}
+
+impl Counts {
+    // The first two words of a hub.
+    pub(crate) fn stored(hub: &[u32]) -> Self
+        requires { Layout.fits hub.now ≡ true }
+        ensures { (result.peers ≡ (hub_of hub.now).settings.peers) × (result.vectors ≡ (hub_of hub.now).settings.vectors) }
+    {
+        Counts {
+            peers: hub[0] as usize,
+            vectors: hub[1] as usize,
+        }
+    }
+
+    // How many words a column of entries has.
+    pub(crate) fn column(self) -> usize
+        ensures { result ≡ self.peers * self.vectors }
+    {
+        self.peers * self.vectors
+    }
+
+    // Where an entry's word of the first column stands.
+    pub(crate) fn entry_start(self, i: usize, v: usize) -> usize
+        requires { (i ≤ self.peers) × (v ≤ self.vectors) }
+        ensures { result ≡ entry_start self.peers self.vectors 0 i v }
+    {
+        10 + 8 * self.peers + (i * self.vectors + v)
+    }
 }
 
 pub fn hub_words(peers: usize, vectors: usize) -> usize
@@ -18,14 +48,6 @@ pub fn hub_words(peers: usize, vectors: usize) -> usize
     10 + 8 * peers + 4 * (peers * vectors)
 }
 
-// A word as a number of peers or vectors, or as an offset.
-pub fn count(hub: &[u32], k: usize) -> usize
-    requires { k < length hub.now }
-    ensures { result ≡ word hub.now k }
-{
-    hub[k] as usize
-}
-
 // There are as many words as the first two ask for. Their ranges are tested first, so that no product wraps.
 pub fn fits(hub: &[u32]) -> bool
     ensures { result ≡ Layout.fits hub.now }
@@ -33,8 +55,8 @@ pub fn fits(hub: &[u32]) -> bool
     if hub.len() < 10 {
         return false;
     }
-    let peers = count(hub, 0);
-    let vectors = count(hub, 1);
+    let peers = hub[0] as usize;
+    let vectors = hub[1] as usize;
     if device::max_peers() < peers {
         return false;
     }
@@ -50,10 +72,7 @@ pub fn counts_of(hub: &[u32]) -> Counts
 {
     let sized = fits(hub);
     if sized {
-        return Counts {
-            peers: count(hub, 0),
-            vectors: count(hub, 1),
-        };
+        return Counts::stored(hub);
     }
     Counts {
         peers: 0,

@@ -4,6 +4,7 @@ ghost use Rattle.device.specs.SetUp.{fresh_hub};
 ghost use Rattle.device.specs.World.{with_slot, reset_slot};
 ghost use Rattle.words.specs.Layout.{hub_words, hub_of, Known, Storable};
 
+use super::sizes::Counts;
 use device::{Entry, Peer, Settings};
 
 // A peer's registers and entries at their reset values, connected (1) or not (0).
@@ -12,14 +13,9 @@ pub fn put_reset(hub: &mut [u32], i: usize, connected: u32)
     ensures { hub_of hub.new ≡ with_slot (hub_of hub.old) i (reset_slot (hub_of hub.old).settings.vectors connected) }
 {
     super::put_peer(hub, i, Peer::reset(connected));
-    let n = super::sizes::count(hub, 0);
-    let m = super::sizes::count(hub, 1);
-    let start = super::entries::entry_start(n, m, i, 0);
-    let column = n * m;
-    let mut v = 0;
-    while v < m {
-        super::entries::put_entry_from(hub, start, column, i, v, Entry::reset());
-        v += 1;
+    let counts = Counts::stored(hub);
+    for v in 0..counts.vectors {
+        super::entries::put_entry_in(hub, counts, i, v, Entry::reset());
     }
 }
 
@@ -31,18 +27,14 @@ pub fn put_fresh(hub: &mut [u32], s: Settings)
 {
     let size = s.peers as usize * s.vectors as usize;
     let start = 10 + 8 * s.peers as usize + 3 * size;
-    super::parts::fill(hub, 0, start, 0);
+    hub[..start].fill(0);
     super::put_settings(hub, s);
-    super::parts::fill(hub, start, size, Entry::CONTROL);
+    hub[start..start + size].fill(Entry::CONTROL);
 }
 
 // All words zero, whatever their number.
 pub fn put_zero(hub: &mut [u32])
     ensures { hub.new ≡ replicate (length hub.old) 0 }
 {
-    let mut k = 0;
-    while k < hub.len() {
-        hub[k] = 0;
-        k += 1;
-    }
+    hub.fill(0);
 }

@@ -8,12 +8,12 @@ use Rattle.words.proofs.columns.words_only.Goals as goal
 
 pub loop-k-init : goal.loop-k-init
 unfolding below
-loop-k-init c = (omega arith, refl)
+loop-k-init c = refl
 
 pub loop-k-preserved : goal.loop-k-preserved
-loop-k-preserved c = (omega arith, rw (add-one, only_more, c.loop-k.invariant.1) (sym (below_suc _ _)))
+loop-k-preserved c = rw (add-one, only_more, c.loop-k.invariant) (sym (below_suc _ _))
 
 pub returns : goal.returns
 returns c =
-    let e : c.loop-k.k ≡ c.args.size = omega arith in
-    rw e at c.loop-k.invariant.1
+    let e : c.loop-k.k ≡ c.args.at.size = omega arith in
+    rw e at c.loop-k.invariant

@@ -1,5 +1,5 @@
 -- `words::columns::words_reset` meets its contract. The loop's invariant: no fault is collected where the words passed hold reset values.
-use Prim.Native.Nat.{◌+◌, ◌-◌, ◌≤◌}
+use Prim.Native.Nat.{◌+◌}
 use mathlib.Core.Path.{◌≡◌}
 use lib.Dec.{eqb}
 use Rattle.common.specs.Tests.{below}
@@ -8,7 +8,4 @@ use Rattle.words.specs.Parts.{entry_from}
 use Rattle.words.proofs.columns.words_reset.Given as goal
 
 abbrev pub invariant-loop-k : goal.invariant-loop-k
-invariant-loop-k l = (l.k ≤ l.size) × (eqb l.faults 0 ≡ below l.k (λ j. entry_reset (entry_from l.hub (l.start + j) l.column)))
-
-abbrev pub decreases-loop-k : goal.decreases-loop-k
-decreases-loop-k l = l.size - l.k
+invariant-loop-k l = eqb l.faults 0 ≡ below l.k (λ j. entry_reset (entry_from l.hub (l.at.start + j) l.at.column))

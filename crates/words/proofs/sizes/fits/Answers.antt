@@ -16,19 +16,17 @@ returns-then-hub-lt10 c =
 
 pub returns-then-max_peers-peers : goal.returns-then-max_peers-peers
 unfolding fits
-returns-then-max_peers-peers c = sym (every_false _ 0 (lt-leb _ _ (rw (c.max_peers.ensures, c.count-peers.ensures) at c.if-max_peers-peers.true)))
+returns-then-max_peers-peers c = sym (every_false _ 0 (lt-leb _ _ (rw c.max_peers.ensures at c.if-max_peers-peers.true)))
 
 pub returns-then-max_vectors-vectors : goal.returns-then-max_vectors-vectors
 unfolding fits
-returns-then-max_vectors-vectors c = sym (every_false _ 1 (lt-leb _ _ (rw (c.max_vectors.ensures, c.count-vectors.ensures) at c.if-max_vectors-vectors.true)))
+returns-then-max_vectors-vectors c = sym (every_false _ 1 (lt-leb _ _ (rw c.max_vectors.ensures at c.if-max_vectors-vectors.true)))
 
 pub returns : goal.returns
 unfolding fits every
 returns c =
     rw (
       c.hub_words.ensures,
-      c.count-peers.ensures,
-      c.count-vectors.ensures,
-      le-leb _ _ (rw (c.max_peers.ensures, c.count-peers.ensures) at c.if-max_peers-peers.false),
-      le-leb _ _ (rw (c.max_vectors.ensures, c.count-vectors.ensures) at c.if-max_vectors-vectors.false),
+      le-leb _ _ (rw c.max_peers.ensures at c.if-max_peers-peers.false),
+      le-leb _ _ (rw c.max_vectors.ensures at c.if-max_vectors-vectors.false),
     )
