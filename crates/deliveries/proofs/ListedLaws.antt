@@ -6,7 +6,8 @@ use mathlib.Core.Path.{◌≡◌, refl, sym, ap, ◌∙◌}
 use native.Mathlib.Numerals.{add-one}
 use native.Mathlib.Omega.{arith}
 use lib.Dec.{eqb}
-use lib.ListN.{length, take, set, replicate, length-replicate, length-set, length-append, length-map, length-take}
+use mir.Val.{bool_byte}
+use lib.ListN.{length, take, replicate, length-replicate, length-set, length-append, length-map, length-take}
 use lib.Seq.{length-take-le, take-suc-set}
 use Rattle.device.proofs.SizeLaws.{max_peers_pos, max_peers_byte}
 use Rattle.device.specs.declared.Delivery.{Delivery}
@@ -18,7 +19,7 @@ use Rattle.device.specs.World.{Hub}
 use Rattle.gate.proofs.RingLaws.{SameEntries, sent_same, apart, Kept, none_kept, ring_kept}
 use Rattle.gate.specs.RingOutcome.{sent_at, outcome_list}
 use Rattle.deliveries.specs.declared.Deliveries.{Deliveries}
-use Rattle.deliveries.specs.Listed.{listed, Lists, ring_but}
+use Rattle.deliveries.specs.Listed.{listed, Lists, with_target, ring_but}
 
 -- an id fits a byte of the list, and is the same there
 pub id_fits : (i : ℕ) → i < max_peers → i < 2 ^ 8
@@ -69,35 +70,40 @@ module _ (hub after : Hub) (t : PeerId) (v : Vector) (delivered : Bool) (left : 
         count = counted hub (everywhere count v id) (simp length-replicate (omega (arith, max_peers_pos))) ∙ ap length (all ∙ told);
       }
 
-  pub ring_lost : delivered ≡ false → count ≡ 0 → Lists after (everywhere count v id) (ring hub t v).deliveries
+  ring_lost : delivered ≡ false → count ≡ 0 → Lists after (everywhere count v id) (ring hub t v).deliveries
   unfolding outcome_list
   ring_lost is none = ring_lists (omega arith) (rw is (none_listed hub (everywhere count v id) none))
 
-  pub ring_sent : delivered ≡ true → count ≡ 1 → id ≡ t.0 → Lists after (everywhere count v id) (ring hub t v).deliveries
+  ring_sent : delivered ≡ true → count ≡ 1 → id ≡ t.0 → Lists after (everywhere count v id) (ring hub t v).deliveries
   unfolding outcome_list listed
   ring_sent is one same = ring_lists (omega arith) (rw (is, one, front max_peers id max_peers_pos, same))
 
--- a list of deliveries of vector 0, and one with a ring's outcome appended
-abbrev pub of_zero : ℕ → List ℕ → Deliveries
-of_zero count targets = record { count = count; vector = vector 0; targets = targets }
+  pub ring_listed : count ≡ bool_byte delivered → (delivered ≡ true → id ≡ t.0) → Lists after (everywhere count v id) (ring hub t v).deliveries
+  ring_listed number same = by delivered refl
+    where
+      by : (b : Bool) → delivered ≡ b → Lists after (everywhere count v id) (ring hub t v).deliveries
+      by true is = ring_sent is (rw is at number) (same is)
+      by false is = ring_lost is (rw is at number)
 
+-- a list of deliveries of vector 0 with a ring's outcome appended
 pub record More (hub : Hub) (t : ℕ) (before : Deliveries) (delivered : Bool) (after : Deliveries) : Type 0 where
   pub few : after.count ≤ before.count + 1
   pub room : length after.targets ≡ length before.targets
+  pub same : after.vector ≡ before.vector
   pub all : listed hub after ≡ listed hub before ++ outcome_list hub (peer_id t) (vector 0) delivered
 
 pub more_lost : (hub : Hub) (t : ℕ) (d : Deliveries) → More hub t d false d
 unfolding outcome_list
-more_lost hub t d = record { few = omega arith; room = refl; all = sym (append-nil (listed hub d)) }
+more_lost hub t d = record { few = omega arith; room = refl; same = refl; all = sym (append-nil (listed hub d)) }
 
-pub more_delivered : (hub : Hub) (t count : ℕ) (targets : List ℕ) → count < length targets
-    → More hub t (of_zero count targets) true (of_zero (count + 1) (set targets count t))
+pub more_delivered : (hub : Hub) (t : ℕ) (d : Deliveries) → d.vector ≡ vector 0 → d.count < length d.targets → More hub t d true (with_target d t)
 unfolding outcome_list listed
-more_delivered hub t count targets l =
+more_delivered hub t d of_zero l =
     record {
       few = omega arith;
       room = simp length-set;
-      all = rw (add-one, take-suc-set targets count t l) (map-append (sent_at hub (vector 0)) (take count targets) (t ∷ []));
+      same = refl;
+      all = rw (of_zero, add-one, take-suc-set d.targets d.count t l) (map-append (sent_at hub (vector 0)) (take d.count d.targets) (t ∷ []));
     }
 
 -- a turn, and all turns, keep settings and entries and deliver at most one interrupt each

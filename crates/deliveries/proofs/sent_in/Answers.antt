@@ -5,4 +5,4 @@ use Rattle.deliveries.proofs.sent_in.Goals as goal
 
 pub returns : goal.returns
 unfolding sent_at delivery_of
-returns c = rw c.entry_at-e.ensures
+returns c = rw (c.joined.ensures, c.at-e.ensures, c.from.ensures, c.from-2.ensures, c.from-3.ensures)
