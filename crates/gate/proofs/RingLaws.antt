@@ -23,6 +23,10 @@ use Rattle.device.specs.Ring.{Rung, rung, gate_of, opens, target, with_interrupt
 use Rattle.device.specs.SetUp.{accepted}
 use Rattle.device.specs.Sizes.{max_peers}
 use Rattle.device.specs.World.{Hub, Slot, zero_slot, slot_at, entry_at, with_slot, with_peer}
+use Rattle.std.proofs.lemmas.Option.{none-some}
+use Rattle.std.specs.Bool.{then_some}
+use Rattle.std.specs.Option.{unwrap_or}
+use Rattle.std.specs.Prelude.{Option, Some, None}
 use Rattle.words.proofs.LayoutLaws.{accepted_fits}
 use Rattle.words.proofs.SlotLaws.{slot_kept}
 use Rattle.words.specs.Layout.{fits, hub_of}
@@ -55,6 +59,15 @@ interrupt_on g o = every_true (switches g) o 4
 cleared : (g : Gate) → opens g ≡ true → (g.interrupt && not (passed_gate g).interrupt) ≡ g.oneshot
 unfolding passed_gate
 cleared g o = rw (o, interrupt_on g o) (not-not g.oneshot)
+
+-- a gate that is passed on, and one that is not
+some_passed : (b : Bool) (g after : Gate) → then_some b g ≡ Some after → (b ≡ true) × (g ≡ after)
+some_passed true g after e = (refl, ap (λ (o : Option Gate). unwrap_or o g) e)
+some_passed false g after e = absurd (none-some after e)
+
+none_passed : (b : Bool) (g : Gate) → then_some b g ≡ None → b ≡ false
+none_passed true g e = absurd (none-some g (sym e))
+none_passed false g e = refl
 
 -- the tests that a target passes
 abbrev tests : Hub → PeerId → Vector → List Bool
@@ -100,14 +113,17 @@ module _ (hub : Hub) (t : PeerId) (v : Vector) where
   unanswered e = rw (← e)
 
   module _ (gate : Gate) (at : Live gate ≡ target hub t v) where
-    pub lost : opens gate ≡ false → rung hub (outcome_list hub t v false) ≡ ring hub t v
+    pub lost : then_some (opens gate) (passed_gate gate) ≡ None → rung hub (outcome_list hub t v false) ≡ ring hub t v
     unfolding ring ring_at outcome_list
-    lost o = rw (← at, o)
+    lost none = rw (← at, none_passed _ _ none)
 
-    pub answered : opens gate ≡ true
-        → rung (cond (gate.interrupt && not (passed_gate gate).interrupt) (disarmed hub t.0) hub) (outcome_list hub t v true) ≡ ring hub t v
+    pub answered : (after : Gate) (clear : Bool) → then_some (opens gate) (passed_gate gate) ≡ Some after
+        → (gate.interrupt && not after.interrupt) ≡ clear → rung (cond clear (disarmed hub t.0) hub) (outcome_list hub t v true) ≡ ring hub t v
     unfolding ring ring_at after_delivery outcome_list sent_at
-    answered o = rw (cleared gate o, ← at, o) (ap (λ (h : Hub). rung h (sent_at hub v t.0 ∷ [])) (either gate.oneshot))
+    answered after clear some test =
+        let p = some_passed _ _ after some in
+        let o : opens gate ≡ true = p.0 in
+        rw (← test, ← p.1, cleared gate o, ← at, o) (ap (λ (h : Hub). rung h (sent_at hub v t.0 ∷ [])) (either gate.oneshot))
       where
         either : (b : Bool)
             → cond b (disarmed hub t.0) hub

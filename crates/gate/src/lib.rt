@@ -1,8 +1,6 @@
 // One ring: the target's switches, and what a delivery leaves.
 #![tactic(auto)]
 
-use device::Gate;
-
 mod lent;
 mod rings;
 mod switches;
@@ -10,10 +8,3 @@ mod switches;
 use lent::pass_local;
 pub use rings::ring;
 use switches::{gate_of, opens, passed_gate};
-
-// A gate after a ring, and whether the ring was delivered.
-#[derive(Clone, Copy)]
-pub struct Passed {
-    pub delivered: bool,
-    pub gate: Gate,
-}

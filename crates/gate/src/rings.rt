@@ -1,5 +1,5 @@
 // One ring of one vector at one id of a hub.
-ghost use Rattle.std.specs.Prelude.{cond, ◌≡◌};
+ghost use Rattle.std.specs.Prelude.{◌≡◌};
 ghost use Rattle.device.specs.Ring;
 ghost use Rattle.device.specs.World.{slot_at, entry_at};
 ghost use Rattle.words.specs.Layout.{hub_of, Known, KnownVector};
@@ -11,7 +11,7 @@ fn entry_of(hub: &[u32], t: PeerId, v: Vector) -> Entry
     requires { Known hub.now t.0 × KnownVector hub.now v.0 }
     ensures { result ≡ entry_at (slot_at (hub_of hub.now) t.0) v.0 }
 {
-    words::entry(hub, t.0 as usize, v.0 as usize)
+    words::entry(hub, usize::from(t.0), usize::from(v.0))
 }
 
 // Either a live peer with that vector, or nobody.
@@ -20,30 +20,27 @@ fn target(hub: &[u32], t: PeerId, v: Vector) -> Target
     ensures { result ≡ Ring.target (hub_of hub.now) t v }
 {
     let s = words::settings(hub);
-    if s.peers <= t.0 as u64 {
+    if s.peers <= u64::from(t.0) {
         return Target::Nobody;
     }
-    let p = words::peer(hub, t.0 as usize);
+    let p = words::peer(hub, usize::from(t.0));
     if p.connected != 1 {
         return Target::Nobody;
     }
-    if s.vectors <= v.0 as u64 {
+    if s.vectors <= u64::from(v.0) {
         return Target::Nobody;
     }
     Target::Live(super::gate_of(p, entry_of(hub, t, v)))
 }
 
-// Interrupt Control becomes 0 where a delivery was made in one-shot mode.
-fn disarm(hub: &mut [u32], t: PeerId, clear: bool)
+// Interrupt Control becomes 0.
+fn disarm(hub: &mut [u32], t: PeerId)
     requires { Known hub.old t.0 }
-    ensures { hub_of hub.new ≡ cond clear (disarmed (hub_of hub.old) t.0) (hub_of hub.old) }
+    ensures { hub_of hub.new ≡ disarmed (hub_of hub.old) t.0 }
 {
-    if !clear {
-        return;
-    }
-    let mut p = words::peer(hub, t.0 as usize);
+    let mut p = words::peer(hub, usize::from(t.0));
     p.interrupt = 0;
-    words::put_peer(hub, t.0 as usize, p);
+    words::put_peer(hub, usize::from(t.0), p);
 }
 
 // The ring passes the target's gate. Where that clears the gate's interrupt, Interrupt Control is cleared with it.
@@ -56,11 +53,11 @@ pub fn ring(hub: &mut [u32], t: PeerId, v: Vector) -> bool
     let Target::Live(gate) = target(hub, t, v) else {
         return false;
     };
-    let passed = super::pass_local(gate);
-    if !passed.delivered {
+    let Some(after) = super::pass_local(gate) else {
         return false;
+    };
+    if gate.interrupt & !after.interrupt {
+        disarm(hub, t);
     }
-    let after = passed.gate;
-    disarm(hub, t, gate.interrupt & !after.interrupt);
     true
 }

@@ -32,11 +32,7 @@ pub fn passed_gate(g: Gate) -> Gate
 {
     let clear = opens(g) & g.oneshot;
     Gate {
-        master: g.master,
-        enabled: g.enabled,
-        masked: g.masked,
-        silenced: g.silenced,
         interrupt: g.interrupt & !clear,
-        oneshot: g.oneshot,
+        ..g
     }
 }
