@@ -17,30 +17,20 @@ fn with_last(first: u64, last: u32) -> u64
     requires { first < 2 ^ 24 }
     ensures { result ≡ first + 16777216 * (last % 256) }
 {
-    first + 16777216 * (last as u64 % 256)
+    first + 16777216 * (u64::from(last) % 256)
 }
 
-// V - 1, the table size that Message Control reports.
-fn table_size(vectors: u64) -> u64
-    ensures { result ≡ vectors - 1 }
-{
-    if vectors == 0 {
-        return 0;
-    }
-    vectors - 1
-}
-
-// The aligned word at an offset.
+// The aligned word at an offset. Message Control reports V - 1 as the table size.
 fn word(s: Settings, p: Peer, at: u64) -> u64
     requires { at % 4 ≡ 0 }
     ensures { result ≡ configuration_read s p at 4 }
 {
     match at {
         0x00 => 0x4106110A,
-        0x04 => halves(p.command as u64, 0x0010),
+        0x04 => halves(u64::from(p.command), 0x0010),
         0x08 => 0xFF000000 + 256 * (s.protocol % 65536),
-        0x10 => p.bar0 as u64,
-        0x14 => p.bar1 as u64,
+        0x10 => u64::from(p.bar0),
+        0x14 => u64::from(p.bar1),
         0x2C => halves(s.vendor, s.subsystem),
         0x34 => 0x40,
         0x40 => with_last(0x206009, p.privileged),
@@ -51,7 +41,10 @@ fn word(s: Settings, p: Peer, at: u64) -> u64
         0x54 => s.output / 4294967296,
         0x58 => s.base % 4294967296,
         0x5C => s.base / 4294967296,
-        0x60 => with_last(0x11 + 65536 * (table_size(s.vectors) % 256), p.message),
+        0x60 => with_last(
+            0x11 + 65536 * (s.vectors.saturating_sub(1) % 256),
+            p.message,
+        ),
         0x64 => 0x00000001,
         0x68 => 0x00000801,
         _ => 0,

@@ -7,6 +7,7 @@ ghost use Rattle.device.specs.Msix.{in_table, entry_word, with_word};
 use device::{Entry, Settings};
 
 // An offset lies in an entry of a vector that the device has.
+#[tactic(auto, unfolding(device::specs::Msix::in_table))]
 pub fn in_table(s: Settings, at: u64) -> bool
     ensures { result ≡ in_table s at }
 {
@@ -14,6 +15,7 @@ pub fn in_table(s: Settings, at: u64) -> bool
 }
 
 // The word of an entry that an offset names.
+#[tactic(auto, unfolding(device::specs::Msix::entry_word))]
 pub fn word(e: Entry, k: u64) -> u32
     ensures { result ≡ entry_word e k }
 {
@@ -26,13 +28,27 @@ pub fn word(e: Entry, k: u64) -> u32
 }
 
 // An entry with one word stored to: each word has a mask of the bits that a store replaces, and fixed bits stay 0.
+#[tactic(auto, unfolding(device::specs::Msix::with_word))]
 pub fn with_word(e: Entry, k: u64, value: u32) -> Entry
     ensures { result ≡ with_word e k value }
 {
-    Entry {
-        low: common::choose(k == 0, value & 0xFFFFFFFC, e.low),
-        high: common::choose(k == 1, value & 0xFFFFFFFF, e.high),
-        payload: common::choose(k == 2, value & 0xFFFFFFFF, e.payload),
-        control: common::choose(k == 3, value & 0x00000001, e.control),
+    match k {
+        0 => Entry {
+            low: value & 0xFFFFFFFC,
+            ..e
+        },
+        1 => Entry {
+            high: value & 0xFFFFFFFF,
+            ..e
+        },
+        2 => Entry {
+            payload: value & 0xFFFFFFFF,
+            ..e
+        },
+        3 => Entry {
+            control: value & 0x00000001,
+            ..e
+        },
+        _ => e,
     }
 }

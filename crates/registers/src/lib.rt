@@ -13,55 +13,50 @@ use device::{Peer, PeerId, Settings, Vector};
 pub const UNMAPPED: u64 = 0xFFFFFFFF;
 
 // Command bit 1, Memory Space.
+#[tactic(auto, unfolding(device::specs::Registers::memory_on))]
 pub fn memory_on(p: Peer) -> bool
     ensures { result ≡ memory_on p }
 {
     p.command / 2 % 2 == 1
 }
 
-fn value(s: Settings, who: u64, p: Peer, at: u64) -> u64
-    requires { (who < 2 ^ 32) × (s.peers < 2 ^ 32) }
-    ensures is { result ≡ register_value s who p (register_at at) }
-    ensures fits { result < 2 ^ 32 }
-{
-    match at {
-        0x00 => who,
-        0x04 => s.peers,
-        0x08 => p.interrupt as u64,
-        0x0C => 0,
-        0x10 => p.state as u64,
-        _ => 0,
-    }
-}
-
+// The Doorbell, at 0x0C, reads 0, as what is no register does.
+#[tactic(auto, unfolding(device::specs::Registers::register_read, device::specs::Registers::register_value, device::specs::Registers::register_at))]
 pub fn read(s: Settings, who: u64, p: Peer, at: u64) -> u64
     requires { (who < 2 ^ 32) × (s.peers < 2 ^ 32) }
     ensures is { result ≡ register_read s who p at }
     ensures fits { result < 2 ^ 32 }
 {
-    let on = memory_on(p);
-    if on { value(s, who, p, at) } else { UNMAPPED }
+    if !memory_on(p) {
+        return UNMAPPED;
+    }
+    match at {
+        0x00 => who,
+        0x04 => s.peers,
+        0x08 => u64::from(p.interrupt),
+        0x10 => u64::from(p.state),
+        _ => 0,
+    }
 }
 
 // Interrupt Control has bit 0 only.
 pub fn with_interrupt(p: Peer, value: u32) -> Peer
     ensures { result ≡ with_interrupt p (bit_and value 1) }
 {
-    let mut q = p;
-    q.interrupt = value & 1;
-    q
+    Peer {
+        interrupt: value & 1,
+        ..p
+    }
 }
 
-// The definition takes 32 bits of any number, as this mask does; of a `u32` it takes all.
 pub fn with_state(p: Peer, value: u32) -> Peer
     ensures { result ≡ with_state p (state_value value) }
 {
-    let mut q = p;
-    q.state = value & 0xFFFFFFFF;
-    q
+    Peer { state: value, ..p }
 }
 
 // Whether a State that was `old` and is `new` has changed (C-11): only then are the others rung.
+#[tactic(auto, unfolding(device::specs::Effect::changes))]
 pub fn state_changes(old: u32, new: u32) -> bool
     ensures { result ≡ changes old new }
 {

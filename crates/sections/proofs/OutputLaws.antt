@@ -152,13 +152,18 @@ module _ (s : Settings) (offset length : ℕ) where
   unfolding section_of sections section_in
   past_table h = rw (ends_before 0 s.table (omega arith))
 
-  pub in_common : s.table < offset + length → (leb s.table offset && leb (offset + length) (s.table + s.common)) ≡ true →
-      section_of s offset length ≡ ReadWrite
-  in_common h e = past_table h ∙ rw e
+  pub in_common : s.table < offset + length → s.table ≤ offset → offset + length ≤ s.table + s.common → section_of s offset length ≡ ReadWrite
+  in_common h a b = past_table h ∙ rw (le-leb s.table offset a, le-leb (offset + length) (s.table + s.common) b)
 
-  pub in_outputs : s.table < offset + length → (leb s.table offset && leb (offset + length) (s.table + s.common)) ≡ false →
+  pub in_outputs : s.table < offset + length → (s.table ≤ offset → s.table + s.common < offset + length) →
       section_of s offset length ≡ section_in offset length (outputs s 0 s.peers)
-  in_outputs h e = past_table h ∙ rw e
+  in_outputs h past = past_table h ∙ go (leb s.table offset) refl
+    where
+      go : (x : Bool) → leb s.table offset ≡ x →
+          cond (leb s.table offset && leb (offset + length) (s.table + s.common)) ReadWrite (section_in offset length (outputs s 0 s.peers))
+          ≡ section_in offset length (outputs s 0 s.peers)
+      go true e = rw (e, lt-leb (offset + length) (s.table + s.common) (past (leb-true _ _ e)))
+      go false e = rw e
 
   -- a range that lies in a section lies in the region
   pub held_fits : somewhere (section_of s offset length) ≡ true → offset + length ≤ total s

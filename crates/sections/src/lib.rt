@@ -1,37 +1,30 @@
 // The sections of the shared region: which one holds a range, and who may store to it.
 #![tactic(auto)]
 
-ghost use Rattle.std.specs.Prelude.{◌≡◌, true, ◌+◌, ◌≤◌, ◌<◌, ◌^◌};
+ghost use Rattle.std.specs.Prelude.{◌≡◌, true, ◌+◌, ◌<◌, ◌^◌, MatchOption};
 ghost use Rattle.device.specs.SetUp.{accepted};
 ghost use Rattle.device.specs.Sections.{outputs, section_in, section_of, somewhere, may_store, answer_of};
+ghost use Rattle.device.specs.declared.SectionKind.TheVariants.{Nothing, Output};
 
 use device::{PeerId, SectionAnswer, SectionKind, Settings};
 
-// No offset of the region is larger.
-const MOST_BYTES: u64 = 0x40000000;
-
-// The output section that holds a range: the one that its first byte lies in, if the range ends there too.
-fn output_of(s: Settings, offset: u64, length: u64) -> SectionKind
+// The owner of the output section that holds a range: the section that its first byte lies in, if the range ends there too.
+fn owner_of(s: Settings, offset: u64, length: u64) -> Option<PeerId>
     requires numbers { accepted s ≡ true }
-    requires range { (0 < length) × (offset + length ≤ 2 ^ 31) }
-    ensures { result ≡ section_in offset length (outputs s 0 s.peers) }
+    requires range { (0 < length) × (offset + length < 2 ^ 64) }
+    ensures { MatchOption result (section_in offset length (outputs s 0 s.peers) ≡ Nothing)
+        (λ owner. section_in offset length (outputs s 0 s.peers) ≡ Output owner) }
 {
     let first = s.table + s.common;
-    let size = s.output;
-    if offset < first {
-        return SectionKind::Nothing;
-    }
-    if size == 0 {
-        return SectionKind::Nothing;
-    }
-    let i = (offset - first) / size;
+    let past = offset.checked_sub(first)?;
+    let i = past.checked_div(s.output)?;
     if s.peers <= i {
-        return SectionKind::Nothing;
+        return None;
     }
-    if first + i * size + size < offset + length {
-        return SectionKind::Nothing;
+    if first + i * s.output + s.output < offset + length {
+        return None;
     }
-    SectionKind::Output(PeerId(i as u16))
+    Some(PeerId(i as u16))
 }
 
 pub fn section_of(s: Settings, offset: u64, length: u64) -> SectionKind
@@ -39,49 +32,46 @@ pub fn section_of(s: Settings, offset: u64, length: u64) -> SectionKind
     requires range { 0 < length }
     ensures { result ≡ section_of s offset length }
 {
-    if MOST_BYTES < offset {
+    let Some(end) = offset.checked_add(length) else {
         return SectionKind::Nothing;
-    }
-    if MOST_BYTES < length {
-        return SectionKind::Nothing;
-    }
-    let end = offset + length;
+    };
     if end <= s.table {
         return SectionKind::StateTable;
     }
-    let common = (s.table <= offset) & (end <= s.table + s.common);
-    if common {
+    if s.table <= offset && end <= s.table + s.common {
         return SectionKind::ReadWrite;
     }
-    output_of(s, offset, length)
+    match owner_of(s, offset, length) {
+        Some(owner) => SectionKind::Output(owner),
+        None => SectionKind::Nothing,
+    }
 }
 
 // Whether a range that lies there lies in a section at all.
+#[tactic(auto, unfolding(device::specs::Sections::somewhere))]
 pub fn is_somewhere(kind: SectionKind) -> bool
     ensures { result ≡ somewhere kind }
 {
-    match kind {
-        SectionKind::Nothing => false,
-        SectionKind::StateTable => true,
-        SectionKind::ReadWrite => true,
-        SectionKind::Output(_) => true,
-    }
+    !matches!(kind, SectionKind::Nothing)
 }
 
+#[tactic(auto, unfolding(device::specs::Sections::may_store))]
 pub fn may_store(who: u64, kind: SectionKind) -> bool
     ensures { result ≡ may_store who kind }
 {
     match kind {
-        SectionKind::Nothing => false,
-        SectionKind::StateTable => false,
+        SectionKind::Nothing | SectionKind::StateTable => false,
         SectionKind::ReadWrite => true,
-        SectionKind::Output(owner) => owner.0 as u64 == who,
+        SectionKind::Output(owner) => u64::from(owner.0) == who,
     }
 }
 
+#[tactic(auto, unfolding(device::specs::Sections::answer_of))]
 pub fn answer(who: u64, kind: SectionKind) -> SectionAnswer
     ensures { result ≡ answer_of who kind }
 {
-    let store = may_store(who, kind);
-    SectionAnswer { kind, store }
+    SectionAnswer {
+        kind,
+        store: may_store(who, kind),
+    }
 }

@@ -20,7 +20,7 @@ returns-in-0 c = rw c.in-0.is
 
 pub returns-in-4 : goal.returns-in-4
 unfolding configuration_read configuration_byte field_byte fields
-returns-in-4 c = rw (c.halves.ensures, c.in-4.is) (two_halves _ 0x0010)
+returns-in-4 c = rw (c.halves.ensures, c.from.ensures, c.in-4.is) (two_halves _ 0x0010)
 
 pub returns-in-8 : goal.returns-in-8
 unfolding configuration_read configuration_byte field_byte fields
@@ -28,11 +28,11 @@ returns-in-8 c = rw c.in-8.is (omega arith)
 
 pub returns-in-16 : goal.returns-in-16
 unfolding configuration_read configuration_byte field_byte fields
-returns-in-16 c = rw c.in-16.is (whole_word c.args.p.bar0 (omega arith))
+returns-in-16 c = rw (c.from-in-16.ensures, c.in-16.is) (whole_word c.args.p.bar0 (omega arith))
 
 pub returns-in-20 : goal.returns-in-20
 unfolding configuration_read configuration_byte field_byte fields
-returns-in-20 c = rw c.in-20.is (whole_word c.args.p.bar1 (omega arith))
+returns-in-20 c = rw (c.from-in-20.ensures, c.in-20.is) (whole_word c.args.p.bar1 (omega arith))
 
 pub returns-in-44 : goal.returns-in-44
 unfolding configuration_read configuration_byte field_byte fields
