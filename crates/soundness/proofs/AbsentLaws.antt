@@ -2,10 +2,10 @@
 use Prim.Native.Nat.{ℕ, suc, ◌+◌, ◌-◌, ◌^◌, ◌≤◌, ◌<◌}
 use mathlib.Core.Bool.{Bool, true, false, ◌&&◌}
 use mathlib.Core.List.{List}
-use mathlib.Core.Path.{◌≡◌, refl, sym, ap, ◌∙◌}
+use mathlib.Core.Path.{◌≡◌, sym, ap, ◌∙◌}
 use native.Mathlib.Omega.{arith}
 use Rattle.std.specs.Prelude.{Option, Some, None, MatchOption}
-use Rattle.common.proofs.TestLaws.{and_false, by_equal, below_suc, below_add, below_ext, below_both, true_below}
+use Rattle.common.proofs.TestLaws.{by_equal, below_suc, below_add, below_ext, below_both, true_below}
 use Rattle.common.specs.Tests.{below}
 use Rattle.device.specs.Sound.{peer_reset, entry_reset}
 use Rattle.device.specs.World.{slot_at}
@@ -16,7 +16,6 @@ use Rattle.soundness.specs.declared.absent.Gap.{Gap}
 use Rattle.soundness.specs.Absent.{absent_slot, Here, FirstAbsent, NextAbsent, Vacant, gap_reset}
 use Rattle.soundness.specs.Scanned.{joined}
 use Rattle.soundness.specs.Together.{together}
-use Rattle.soundness.proofs.ScanLaws.{below_stops}
 use Rattle.soundness.proofs.TogetherLaws.{reset_together}
 
 -- a hub has few peers
@@ -30,7 +29,7 @@ few_peers ws =
 
 pub next_told : (ws : List ℕ) (from peers : ℕ) (r : Option ℕ)
     → MatchOption r ((k : ℕ) → from ≤ k → k < peers → joined ws k ≡ true)
-        (λ i. (from ≤ i) × (i < peers) × (joined ws i ≡ false) × ((k : ℕ) → from ≤ k → k < i → joined ws k ≡ true))
+    (λ i. (from ≤ i) × (i < peers) × (joined ws i ≡ false) × ((k : ℕ) → from ≤ k → k < i → joined ws k ≡ true))
     → NextAbsent ws from peers r
 next_told ws from peers None h = h
 next_told ws from peers (Some i) h = record { order = h.0; passed = h.3; here = record { below = h.1; absent = h.2 } }

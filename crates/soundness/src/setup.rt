@@ -23,6 +23,7 @@ fn sum(s: Settings) -> Option<u64>
         .checked_add(s.common)
 }
 
+// By `as`: there is no `From` between usize and u64.
 fn tested(s: Settings, all: u64) -> bool
     requires { all ≡ SetUp.total s }
     ensures { result ≡ SetUp.accepted s }

@@ -52,18 +52,6 @@ impl<'a> Counted<'a> {
         Counted { slots, peers }
     }
 
-    // All peers are connected, or none is.
-    fn alike_sound(&self, standing: Standing) -> bool
-        requires { Uniform self.now.slots.hub.now 0 self.now.slots.settings.peers standing }
-        ensures { result ≡ slots_sound self.now.slots.hub.now self.now.slots.settings }
-    {
-        let entries = self.slots.run_sound(0, self.slots.peers(), standing);
-        match standing {
-            Standing::Connected => parts::peer_fixed(self.peers.all) & entries,
-            Standing::Absent => parts::peer_reset(self.peers.all) & entries,
-        }
-    }
-
     // Some peers are connected, and some are not.
     fn mixed_sound(&self) -> bool
         requires { self.now.peers.connected ≡ self.now.slots.settings.peers → ⊥ }
@@ -80,15 +68,19 @@ impl<'a> Counted<'a> {
         fixed & runs
     }
 
+    // Two returns alike: with one function for both, the loop over the peers does not vectorise, and takes half as long again.
     fn sound(&self) -> bool
         ensures { result ≡ slots_sound self.now.slots.hub.now self.now.slots.settings }
     {
+        let peers = self.slots.peers();
         let connected = self.peers.connected;
-        if connected == self.slots.peers() {
-            return self.alike_sound(Standing::Connected);
+        if connected == peers {
+            let fixed = parts::peer_fixed(self.peers.all);
+            return fixed & self.slots.run_sound(0, peers, Standing::Connected);
         }
         if connected == 0 {
-            return self.alike_sound(Standing::Absent);
+            let reset = parts::peer_reset(self.peers.all);
+            return reset & self.slots.run_sound(0, peers, Standing::Absent);
         }
         self.mixed_sound()
     }
