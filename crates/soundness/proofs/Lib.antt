@@ -1,5 +1,5 @@
 pub mod AbsentLaws
-pub mod PartsLaws
 pub mod ScanLaws
+pub mod SetUpLaws
 pub mod TogetherLaws
 pub mod WholeLaws

@@ -5,6 +5,7 @@ mod absent;
 mod parts;
 mod runs;
 mod setup;
+mod slots;
 mod whole;
 
 pub use setup::{accepted, total};

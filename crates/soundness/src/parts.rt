@@ -1,22 +1,33 @@
 // A peer's registers: fixed bits where it is connected, reset values where it is not. Both can be tested of several peers
 // together.
 ghost use Rattle.std.specs.Prelude.{◌≡◌};
+ghost use Rattle.common.specs.Bytes;
+ghost use Rattle.device.specs.declared.Settings;
 ghost use Rattle.device.specs.Sound;
 ghost use Rattle.soundness.specs.Together;
 
-use device::{Peer, Settings};
+use device::Peer;
 
-pub fn peer_fixed(s: Settings, p: Peer) -> bool
-    ensures { result ≡ Sound.peer_fixed s p }
+// No bit is set but those of the mask.
+fn only(mask: u32, x: u32) -> bool
+    ensures { result ≡ Bytes.only mask x }
 {
-    ((p.command & 0x0406) == p.command)
-        & ((p.bar0 & 0xFFFFF000) == p.bar0)
-        & ((p.bar1 & 0xFFFFF000) == p.bar1)
-        & ((p.privileged & 0x01) == p.privileged)
-        & ((p.message & 0xC0) == p.message)
-        & ((p.interrupt & 0x01) == p.interrupt)
+    x & mask == x
 }
 
+// The masks are the same for all settings.
+pub fn peer_fixed(p: Peer) -> bool
+    ensures { (s : Settings.Settings) → result ≡ Sound.peer_fixed s p }
+{
+    only(0x0406, p.command)
+        & only(0xFFFFF000, p.bar0)
+        & only(0xFFFFF000, p.bar1)
+        & only(0x01, p.privileged)
+        & only(0xC0, p.message)
+        & only(0x01, p.interrupt)
+}
+
+// Not `p == Peer::reset(0)`: crate device, where a derive would stand, is not to change.
 pub fn peer_reset(p: Peer) -> bool
     ensures { result ≡ Sound.peer_reset p }
 {
@@ -30,7 +41,7 @@ pub fn peer_reset(p: Peer) -> bool
         & (p.state == 0)
 }
 
-// The bits that are set in the registers of either peer.
+// The bits that are set in the registers of either peer. Not `impl BitOr`: `Peer` is of crate device, which is not to change.
 pub fn together(a: Peer, b: Peer) -> Peer
     ensures { result ≡ Together.together a b }
 {

@@ -5,16 +5,13 @@ use Rattle.device.specs.Sound.{sound}
 use Rattle.words.proofs.LayoutLaws.{no_hub}
 use Rattle.soundness.proofs.whole.sound.Goals as goal
 
-pub returns-then-not-sized : goal.returns-then-not-sized
-returns-then-not-sized c = rw (no_hub _ (sym c.fits-sized.ensures ∙ c.if-not-sized.true)) (sym zero_unsound)
+pub returns-then-not-fits : goal.returns-then-not-fits
+returns-then-not-fits c = rw (no_hub _ (sym c.fits.ensures ∙ c.if-not-fits.true)) (sym zero_unsound)
 
-pub settings-s-requires : goal.settings-s-requires
-settings-s-requires c = sym c.fits-sized.ensures ∙ c.if-not-sized.false
-
-pub returns-then-ok : goal.returns-then-ok
+pub returns-then-not-accepted : goal.returns-then-not-accepted
 unfolding sound
-returns-then-ok c = rw (← c.settings-s.ensures, ← c.accepted-ok.ensures, c.if-ok.true) c.slots_sound.ensures
+returns-then-not-accepted c = rw (← c.settings-settings.ensures, ← c.accepted.ensures, c.if-not-accepted.true)
 
 pub returns : goal.returns
 unfolding sound
-returns c = rw (← c.settings-s.ensures, ← c.accepted-ok.ensures, c.if-ok.false)
+returns c = rw (← c.settings-settings.ensures, ← c.accepted.ensures, c.if-not-accepted.false) (rw c.of.ensures at c.sound.ensures)
