@@ -6,7 +6,7 @@ ghost use Rattle.std.specs.Prelude.{◌≡◌, length};
 ghost use Rattle.ivshmem_protocol.specs.Promises.{ReadsInNumbers, numbers_of};
 ghost use Rattle.server.specs.Serving.{Serves, started, join, leave};
 
-use reader::{Message, Progress};
+use reader::{Answer, Message, Progress};
 use server::{Served, Server, Started};
 
 // A message in numbers: its own number, the id that it names, and the vectors that the id has then.
@@ -29,64 +29,44 @@ pub struct ReadNumbers {
     pub progress: Progress,
 }
 
+impl MessageNumbers {
+    fn new(message: u32, id: u8, count: u8) -> MessageNumbers
+        ensures { result ≡ record { message = message; id = id; count = count } }
+    {
+        MessageNumbers {
+            message,
+            id: u32::from(id),
+            count: u32::from(count),
+        }
+    }
+}
+
+impl From<Message> for MessageNumbers {
+    ghost from_gives = { λ m n. n ≡ numbers_of m };
+
+    fn from(m: Message) -> MessageNumbers {
+        match m {
+            Message::More => MessageNumbers::new(0, 0, 0),
+            Message::Version => MessageNumbers::new(1, 0, 0),
+            Message::Id(id) => MessageNumbers::new(2, id, 0),
+            Message::Memory => MessageNumbers::new(3, 0, 0),
+            Message::Vector(id, count) => MessageNumbers::new(4, id, count),
+            Message::Extra(id, count) => MessageNumbers::new(5, id, count),
+            Message::Disconnected(id) => MessageNumbers::new(6, id, 0),
+            Message::Closed => MessageNumbers::new(7, 0, 0),
+        }
+    }
+}
+
 // The number of this interface. It stands in the function's name, so that what was compiled for another one does not link.
-#[unsafe(no_mangle)]
-pub extern "C" fn ivshmem_protocol_interface_1() -> u32
+pub fn ivshmem_protocol_interface_1() -> u32
     ensures { result ≡ 1 }
 {
     1
 }
 
-fn in_numbers(m: Message) -> MessageNumbers
-    ensures { result ≡ numbers_of m }
-{
-    match m {
-        Message::More => MessageNumbers {
-            message: 0,
-            id: 0,
-            count: 0,
-        },
-        Message::Version => MessageNumbers {
-            message: 1,
-            id: 0,
-            count: 0,
-        },
-        Message::Id(id) => MessageNumbers {
-            message: 2,
-            id: id as u32,
-            count: 0,
-        },
-        Message::Memory => MessageNumbers {
-            message: 3,
-            id: 0,
-            count: 0,
-        },
-        Message::Vector(id, count) => MessageNumbers {
-            message: 4,
-            id: id as u32,
-            count: count as u32,
-        },
-        Message::Extra(id, count) => MessageNumbers {
-            message: 5,
-            id: id as u32,
-            count: count as u32,
-        },
-        Message::Disconnected(id) => MessageNumbers {
-            message: 6,
-            id: id as u32,
-            count: 0,
-        },
-        Message::Closed => MessageNumbers {
-            message: 7,
-            id: 0,
-            count: 0,
-        },
-    }
-}
-
-// `reader::read`, with its message in numbers.
-#[unsafe(no_mangle)]
-pub extern "C" fn ivshmem_protocol_read(
+// `reader::read`, in numbers; beside a refusal's number nothing is said, and the progress is the one that was handed in.
+pub fn ivshmem_protocol_read(
     progress: Progress,
     counts: &mut [u8],
     vectors: u64,
@@ -94,17 +74,22 @@ pub extern "C" fn ivshmem_protocol_read(
 ) -> ReadNumbers
     ensures { ReadsInNumbers vectors progress counts.old counts.new input.now result }
 {
-    let a = reader::read(progress, counts, vectors, input);
-    let message = a.message;
-    let said = in_numbers(message);
-    let next = a.progress;
+    let (number, answer) = match reader::read(progress, counts, vectors, input) {
+        Ok(answer) => (0, answer),
+        Err(refusal) => (refusal.number(), Answer {
+            message: Message::More,
+            taken: 0,
+            progress,
+        }),
+    };
+    let said = MessageNumbers::from(answer.message);
     ReadNumbers {
-        number: a.number,
+        number,
         message: said.message,
         id: said.id,
         count: said.count,
-        taken: a.taken,
-        progress: next,
+        taken: answer.taken,
+        progress: answer.progress,
     }
 }
 

@@ -1,16 +1,24 @@
 -- What is known of a progress and counts that are not refused, and that this is all that is asked.
-use Prim.Native.Nat.{ℕ, ◌≤◌, ◌<◌}
+use Prim.Native.Nat.{ℕ, zero, suc, max, ◌≤◌, ◌<◌}
 use mathlib.Core.Bool.{Bool, true, false, ◌&&◌, ◌||◌}
 use mathlib.Core.List.{List}
-use mathlib.Core.Path.{◌≡◌, refl}
+use mathlib.Core.Path.{◌≡◌, refl, sym, ap, ◌∙◌}
+use native.Mathlib.Numerals.{add-one}
 use native.Mathlib.Omega.{arith}
 use lib.Dec.{eqb, leb, ltb}
-use lib.ListN.{length, get_or}
+use lib.ListN.{length, take, get_or}
+use lib.Seq.{take_all}
 use borrow.Author.Tests.{leb-true, ltb-true, ltb-false, eqb-true, le-leb, lt-ltb, le-ltb, eq-eqb, not-false}
+use Rattle.std.specs.List.{fold}
+use Rattle.std.proofs.lemmas.List.Sums.{fold_more}
 use Rattle.common.specs.Tests.{first, every, below}
 use Rattle.common.proofs.TestLaws.{and_left, and_right, alike, every_true, first_zero, below_true, true_below, below_ext}
+use Rattle.reader.specs.declared.steps.Step.{Step}
+use Rattle.reader.specs.declared.steps.Step.TheVariants.{Version, Id, Memory, Peers, Closed}
+use Rattle.reader.specs.Parts.{step_number}
 use Rattle.reader.specs.Reading.{State, good, refusal}
 use Rattle.reader.specs.Sizes.{ids, most_vectors}
+use Rattle.reader.specs.Steps.{closed_step}
 
 pub record Good (vectors : ℕ) (s : State) : Type 0 where
   pub some : 1 ≤ vectors
@@ -80,15 +88,25 @@ module _ (vectors : ℕ) (s : State) where
       )
 
 -- a bound on the larger of two numbers is one on both
-pub bound_first : (a b most : ℕ) → b ≤ a → leb a most ≡ (leb a most && leb b most)
-bound_first a b most h =
-    alike (leb a most) (leb a most && leb b most)
-    (λ e. let l = leb-true a most e in rw (e, le-leb b most (omega arith))) (λ e. and_left (leb a most) (leb b most) e)
+bound_max : (a b most : ℕ) → leb (max a b) most ≡ (leb a most && leb b most)
+bound_max a b most =
+    alike (leb (max a b) most) (leb a most && leb b most)
+    (λ e. let l = leb-true (max a b) most e in rw (le-leb a most (omega arith), le-leb b most (omega arith)))
+    (λ e.
+    let l = leb-true a most (and_left (leb a most) (leb b most) e) in
+    let k = leb-true b most (and_right (leb a most) (leb b most) e) in
+    le-leb (max a b) most (omega arith))
 
-pub bound_second : (a b most : ℕ) → a ≤ b → leb b most ≡ (leb a most && leb b most)
-bound_second a b most h =
-    alike (leb b most) (leb a most && leb b most)
-    (λ e. let l = leb-true b most e in rw (le-leb a most (omega arith), e)) (λ e. and_right (leb a most) (leb b most) e)
+-- a bound on the largest of a front is one on each of its numbers
+bound_front : (l : List ℕ) (most n : ℕ) → n ≤ length l → leb (fold max 0 (take n l)) most ≡ below n (λ i. leb (get_or l i 0) most)
+unfolding below
+bound_front l most zero h = le-leb 0 most (omega arith)
+bound_front l most (suc n) h =
+    rw (← add-one n, fold_more max 0 l n 0 (omega arith), bound_max, bound_front l most n (omega arith))
+
+pub bound_largest : (l : List ℕ) (most : ℕ) → leb (fold max 0 l) most ≡ below (length l) (λ i. leb (get_or l i 0) most)
+bound_largest l most =
+    ap (λ (front : List ℕ). leb (fold max 0 front) most) (sym (take_all (length l) l (omega arith))) ∙ bound_front l most (length l) (omega arith)
 
 -- a number that is no more than 0 is 0
 pub bound_zero : (n : ℕ) → leb n 0 ≡ eqb n 0
@@ -98,3 +116,11 @@ bound_zero n =
 -- no count is above 0 exactly where every count is 0
 pub none_within : (l : List ℕ) (n : ℕ) → below n (λ i. leb (get_or l i 0) 0) ≡ below n (λ i. eqb (get_or l i 0) 0)
 none_within l n = below_ext n _ _ (λ i h. bound_zero (get_or l i 0))
+
+-- a step's number is a known one
+pub step_known : (s : Step) → leb (step_number s) closed_step ≡ true
+step_known Version = refl
+step_known Id = refl
+step_known Memory = refl
+step_known Peers = refl
+step_known Closed = refl

@@ -3,6 +3,7 @@ pub mod NumberLaws
 pub mod PlaceLaws
 pub mod GoodLaws
 pub mod RecordLaws
+pub mod LeaveLaws
 pub mod ReadLaws
 pub mod Keeping
 pub mod Cutting

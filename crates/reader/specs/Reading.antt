@@ -1,14 +1,16 @@
 -- C-17: a call, which takes bytes through the end of the first whole record (R89), and when it is refused (R90).
-use Rattle.std.specs.Prelude.{ℕ, ◌+◌, ◌-◌, Bool, cond, not, ◌&&◌, ◌||◌, List, [], ◌∷◌, ◌++◌, eqb, leb, ltb, length, take, get_or, replicate}
+use Rattle.std.specs.Prelude.{ℕ, ◌+◌, ◌-◌, Bool, cond, not, ◌&&◌, ◌||◌, List, [], ◌∷◌, ◌++◌, Result, Ok, Err, eqb, leb, ltb, length, take, get_or, replicate}
 use Rattle.std.proofs.lemmas.List.Edits.{sets}
 use Rattle.common.specs.Tests.{row, first, every, below}
 use Rattle.reader.specs.declared.Answer.{Answer}
 use Rattle.reader.specs.declared.Message.{Message}
 use Rattle.reader.specs.declared.Message.TheVariants.{More}
 use Rattle.reader.specs.declared.Progress.{Progress}
+use Rattle.reader.specs.declared.refusals.Refusal.{Refusal}
+use Rattle.reader.specs.declared.refusals.Refusal.TheVariants as refusals
 use Rattle.reader.specs.Records.{record_bytes, held_places, record_in}
 use Rattle.reader.specs.Sizes.{ids, most_vectors}
-use Rattle.reader.specs.Steps.{Known, known, Result, read_record, id_due, memory_due, closed_step}
+use Rattle.reader.specs.Steps.{Known, known, Result as Heard, read_record, id_due, memory_due, closed_step}
 
 -- what goes in and comes back: the progress, and the buffer of the counts
 pub record State : Type 0 where
@@ -53,7 +55,7 @@ pub record Read : Type 0 where
 abbrev pub gives : Message → ℕ → State → Read
 gives message taken s = record { number = 0; message = message; taken = taken; state = s }
 
-abbrev pub answered_by : ℕ → Result → Read
+abbrev pub answered_by : ℕ → Heard → Read
 answered_by taken h = gives h.message taken (emptied h.known)
 
 -- R89: bytes are taken through the end of the first whole record; without one all are held
@@ -92,7 +94,13 @@ refused_by number s = record { number = number; message = More; taken = 0; state
 unfoldable pub read : (vectors : ℕ) → State → (input : List ℕ) → Read
 read vectors s input = cond (eqb (refusal vectors s) 0) (accepted vectors s input) (refused_by (refusal vectors s) s)
 
--- the code's answer with the counts that it leaves
-abbrev pub answered : Answer → List ℕ → Read
-answered a counts =
-    record { number = a.number; message = a.message; taken = a.taken; state = state a.progress counts }
+-- R90: the number of each refusal
+abbrev pub refusal_number : Refusal → ℕ
+refusal_number refusals.Vectors = 1
+refusal_number refusals.Counts = 2
+refusal_number refusals.Progress = 10
+
+-- the code's answer with the counts that it leaves; beside a refusal the progress is the one that was handed in
+abbrev pub answered : Result Answer Refusal → Progress → List ℕ → Read
+answered (Ok a) p counts = gives a.message a.taken (state a.progress counts)
+answered (Err e) p counts = refused_by (refusal_number e) (state p counts)

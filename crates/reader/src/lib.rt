@@ -7,7 +7,13 @@ mod refusals;
 mod steps;
 
 ghost use Rattle.std.specs.Prelude.{◌≡◌};
-ghost use Rattle.reader.specs.Reading.{state, answered, refusal, read, accepted};
+ghost use Rattle.reader.specs.Parts.{step_number};
+ghost use Rattle.reader.specs.Reading.{state, gives, answered, refusal, read, accepted};
+
+use records::Record;
+use steps::{Known, Step};
+
+pub use refusals::Refusal;
 
 // The ids that are accepted are those below this number, and each has a count; the most vectors that can be configured.
 pub const IDS: usize = 64;
@@ -18,7 +24,7 @@ pub const MOST_VECTORS: u64 = 16;
 #[repr(C)]
 #[derive(Clone, Copy)]
 pub struct Progress {
-    // the step that is due (steps.rt)
+    // the step that is due, by its number (`Step` in steps.rt)
     pub due: u32,
     // our own id, 0 until it is known
     pub own: u32,
@@ -48,56 +54,50 @@ pub enum Message {
     Closed,
 }
 
-// The answer to a call: a refusal's number or 0, the message, the bytes taken of the input, and the progress.
+// What a call answers that is not refused: the message, the bytes taken of the input, and the progress.
 #[derive(Drop)]
 pub struct Answer {
-    pub number: u32,
     pub message: Message,
     pub taken: usize,
     pub progress: Progress,
 }
 
-// A call that is not refused.
-fn accepted(progress: Progress, counts: &mut [u8], vectors: u64, input: &[u8]) -> Answer
-    requires { refusal vectors (state progress counts.old) ≡ 0 }
-    ensures { answered result counts.new ≡ accepted vectors (state progress counts.old) input.now }
+// A call that is not refused, with the step that is due.
+fn accepted(step: Step, progress: Progress, counts: &mut [u8], vectors: u64, input: &[u8]) -> Answer
+    requires due { progress.due ≡ step_number step }
+    requires good { refusal vectors (state progress counts.old) ≡ 0 }
+    ensures { gives result.message result.taken (state result.progress counts.new) ≡ accepted vectors (state progress counts.old) input.now }
 {
     let held = progress.held;
-    let before = progress.bytes;
-    let bytes = records::gathered(before, held, input);
+    let bytes = records::gathered(progress.bytes, held, input);
     let wanted = records::RECORD_BYTES - held;
     if input.len() < wanted {
         let next = Progress {
-            due: progress.due,
-            own: progress.own,
             held: held + input.len(),
             bytes,
+            ..progress
         };
         return Answer {
-            number: 0,
             message: Message::More,
             taken: input.len(),
             progress: next,
         };
     }
-    let number = records::number(bytes, input[wanted - 1]);
-    let heard = steps::read_record(
-        progress.due,
-        progress.own,
+    let heard = Record::whole(bytes, input[wanted - 1]);
+    let mut known = Known {
+        step,
+        own: progress.own,
         counts,
         vectors,
-        bytes[0],
-        number,
-    );
-    let message = heard.message;
+    };
+    let message = known.read_record(heard);
     let next = Progress {
-        due: heard.due,
-        own: heard.own,
+        due: known.step.number(),
+        own: known.own,
         held: 0,
         bytes: [0; 8],
     };
     Answer {
-        number: 0,
         message,
         taken: wanted,
         progress: next,
@@ -106,17 +106,14 @@ fn accepted(progress: Progress, counts: &mut [u8], vectors: u64, input: &[u8]) -
 
 // Takes the input's bytes through the end of the first whole record, and answers what it says. Without one all of them are held,
 // and the answer is that more is wanted. A refused call changes nothing.
-pub fn read(progress: Progress, counts: &mut [u8], vectors: u64, input: &[u8]) -> Answer
-    ensures { answered result counts.new ≡ read vectors (state progress counts.old) input.now }
+pub fn read(
+    progress: Progress,
+    counts: &mut [u8],
+    vectors: u64,
+    input: &[u8],
+) -> Result<Answer, Refusal>
+    ensures { answered result progress counts.new ≡ read vectors (state progress counts.old) input.now }
 {
-    let number = refusals::refusal(progress, counts, vectors);
-    if number != 0 {
-        return Answer {
-            number,
-            message: Message::More,
-            taken: 0,
-            progress,
-        };
-    }
-    accepted(progress, counts, vectors, input)
+    let step = refusals::due(progress, counts, vectors)?;
+    Ok(accepted(step, progress, counts, vectors, input))
 }

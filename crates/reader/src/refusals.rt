@@ -1,64 +1,81 @@
-// Which calls are refused, and by which number.
-ghost use Rattle.std.specs.Prelude.{◌≡◌, ℕ, ◌&&◌, leb, length, get_or};
-ghost use Rattle.common.specs.Tests.{below};
-ghost use Rattle.reader.specs.Reading.{state, good, refusal};
+// Which calls are refused, and why.
+ghost use Rattle.std.specs.Prelude.{◌≡◌, length, fold, max};
+ghost use Rattle.reader.specs.Parts.{Due, step_number};
+ghost use Rattle.reader.specs.Reading.{state, good, refusal, refusal_number};
 ghost use Rattle.reader.specs.Sizes.{ids};
 
 use super::Progress;
-use super::steps::{CLOSED, ID_DUE, MEMORY_DUE};
+use super::steps::Step;
+use std::fmt;
 
-// The larger of two numbers: no more than a bound exactly where both are.
-fn larger(a: u8, b: u8) -> u8
-    ensures { (most : ℕ) → leb result most ≡ (leb a most && leb b most) }
-{
-    if a < b {
-        return b;
-    }
-    a
+// Why a call is refused.
+#[derive(Clone, Copy, Debug, PartialEq, Eq)]
+pub enum Refusal {
+    // a number of vectors outside its range
+    Vectors,
+    // counts of another number
+    Counts,
+    // a progress, or counts, that no reader has
+    Progress,
 }
 
-// The largest count: no more than a bound exactly where all are. Compared with the bounds once, it spares a test of each count.
+impl Refusal {
+    pub fn number(self) -> u32
+        ensures { result ≡ refusal_number self }
+    {
+        match self {
+            Refusal::Vectors => 1,
+            Refusal::Counts => 2,
+            Refusal::Progress => 10,
+        }
+    }
+}
+
+impl fmt::Display for Refusal {
+    fn fmt<W: fmt::Write>(&self, f: &mut fmt::Formatter<W>) -> fmt::Result {
+        match self {
+            Refusal::Vectors => write!(f, "the number of vectors is not 1 to 16"),
+            Refusal::Counts => write!(f, "there are not 64 counts"),
+            Refusal::Progress => write!(f, "no reader has this progress and these counts"),
+        }
+    }
+}
+
+// The largest count. Compared with the bounds once, it spares a test of each count.
 fn largest(counts: &[u8]) -> u8
-    ensures { (most : ℕ) → leb result most ≡ below (length counts.now) (λ i. leb (get_or counts.now i 0) most) }
+    ensures { result ≡ fold max 0 counts.now }
 {
-    let mut most = 0;
-    let mut i = 0;
-    while i < counts.len() {
-        most = larger(most, counts[i]);
-        i += 1;
-    }
-    most
+    counts.iter().fold(0, |most: u8, count: &u8| most.max(*count))
 }
 
-// A progress and counts that a reader may have.
-fn is_good(p: Progress, counts: &[u8], vectors: u64) -> bool
-    requires { length counts.now ≡ ids }
+// A progress and counts that a reader may have at a step.
+fn is_good(step: Step, p: Progress, counts: &[u8], vectors: u64) -> bool
+    requires due { p.due ≡ step_number step }
+    requires size { length counts.now ≡ ids }
     ensures { result ≡ good vectors (state p counts.now) }
 {
-    let own = p.own as usize;
-    let most = largest(counts) as u64;
-    (p.due <= CLOSED)
-        & (own < super::IDS)
+    let most = u64::from(largest(counts));
+    ((p.own as usize) < super::IDS)
         & (p.held <= 8)
         & (most <= vectors)
-        & ((ID_DUE < p.due) | (p.own == 0))
-        & ((MEMORY_DUE < p.due) | (most == 0))
+        & (step.is_after(Step::Id) | (p.own == 0))
+        & (step.is_after(Step::Memory) | (most == 0))
 }
 
-// 1 for a number of vectors outside its range, then 2 for counts of another number, then 10.
-pub fn refusal(p: Progress, counts: &[u8], vectors: u64) -> u32
-    ensures { result ≡ refusal vectors (state p counts.now) }
+// The step that is due, or the refusal: first the vectors, then the counts' number, then what they and the progress say.
+pub fn due(p: Progress, counts: &[u8], vectors: u64) -> Result<Step, Refusal>
+    ensures { Due (refusal vectors (state p counts.now)) p.due result }
 {
     let ok = (1 <= vectors) & (vectors <= super::MOST_VECTORS);
     if !ok {
-        return 1;
+        return Err(Refusal::Vectors);
     }
     if counts.len() != super::IDS {
-        return 2;
+        return Err(Refusal::Counts);
     }
-    let good = is_good(p, counts, vectors);
-    if !good {
-        return 10;
+    let step = Step::try_from(p.due)?;
+    if !is_good(step, p, counts, vectors) {
+        return Err(Refusal::Progress);
     }
-    0
+    Ok(step)
 }

@@ -1,182 +1,170 @@
 // What one whole record does, by the step that is due.
-ghost use Rattle.std.specs.Prelude.{◌≡◌, true, cond, ℕ, ◌≤◌, ◌<◌, List, length};
-ghost use Rattle.reader.specs.Records.{record_of};
+ghost use Rattle.std.specs.Prelude.{◌≡◌, ◌<◌, ◌≤◌, ltb, length};
 ghost use Rattle.reader.specs.Sizes.{ids, most_vectors};
-ghost use Rattle.reader.specs.Steps.{peers_due, is_id, id_of, is_version, is_memory, known, result_with, closes};
-ghost use Rattle.reader.specs.Steps.{version_step, id_step, memory_step, peers_step, adds, removes, read_record};
-ghost use Rattle.reader.specs.Parts.{result_of};
 
 use super::Message;
+use super::records::Record;
+use super::refusals::Refusal;
 
-// The steps by their numbers; the first, 0, is that the version is due.
-pub const ID_DUE: u32 = 1;
+// What has to come next. Their order is that of the numbers in a progress.
+#[derive(Clone, Copy, PartialEq, Eq, PartialOrd, Ord)]
+pub enum Step {
+    Version,
+    Id,
+    Memory,
+    Peers,
+    Closed,
+}
 
-pub const MEMORY_DUE: u32 = 2;
+impl Step {
+    ghost use Rattle.reader.specs.Parts.{step_number};
 
-pub const PEERS_DUE: u32 = 3;
+    pub fn number(self) -> u32
+        ensures { result ≡ step_number self }
+    {
+        self as u32
+    }
 
-pub const CLOSED: u32 = 4;
+    // Whether it comes after another.
+    pub fn is_after(self, other: Step) -> bool
+        ensures { result ≡ ltb (step_number other) (step_number self) }
+    {
+        other < self
+    }
+}
 
-// What a record leaves, beside the counts.
+impl TryFrom<u32> for Step {
+    type Error = Refusal;
+
+    ghost use Rattle.reader.specs.Parts.{Numbers};
+
+    ghost try_from_gives = { λ n r. Numbers n r };
+
+    fn try_from(number: u32) -> Result<Step, Refusal> {
+        match number {
+            0 => Ok(Step::Version),
+            1 => Ok(Step::Id),
+            2 => Ok(Step::Memory),
+            3 => Ok(Step::Peers),
+            4 => Ok(Step::Closed),
+            _ => Err(Refusal::Progress),
+        }
+    }
+}
+
+// What is known of the server, with the most vectors that an id may have.
 #[derive(Drop)]
-pub struct Outcome {
-    pub message: Message,
-    pub due: u32,
+pub struct Known<'a> {
+    pub step: Step,
     pub own: u32,
+    pub counts: &'a mut [u8],
+    pub vectors: u64,
+    ghost counts_of_ids: { length counts.now ≡ ids },
+    ghost vectors_in_range: { vectors ≤ most_vectors },
 }
 
-fn is_version(number: i64) -> bool
-    ensures { result ≡ is_version number }
-{
-    number == 0
-}
+impl Known<'_> {
+    ghost use Rattle.reader.specs.Parts.{Leaves, known_by, told};
+    ghost use Rattle.reader.specs.Steps.{closes, version_step, id_step, memory_step, adds, removes, peers_step, read_record};
 
-fn is_id(number: i64) -> bool
-    ensures { result ≡ is_id number }
-{
-    (0 <= number) & (number < super::IDS as i64)
-}
-
-fn is_memory(number: i64) -> bool
-    ensures { result ≡ is_memory number }
-{
-    number == -1
-}
-
-fn id_of(number: i64) -> u8
-    requires { is_id number ≡ true }
-    ensures { (result ≡ id_of number) × (result < ids) }
-{
-    number as u8
-}
-
-// Our id and the counts stay.
-fn closed(own: u32) -> Outcome
-    ensures { (due : ℕ) (counts : List ℕ) → result_of result counts ≡ closes (known due own counts) }
-{
-    Outcome {
-        message: Message::Closed,
-        due: CLOSED,
-        own,
+    // Our id and the counts stay.
+    fn close(&mut self) -> Message
+        ensures { Leaves self.old self.new result (closes (known_by self.old)) }
+    {
+        self.step = Step::Closed;
+        Message::Closed
     }
-}
 
-// On to another step with a message, or closed.
-fn proceed(ok: bool, message: Message, due: u32, own: u32) -> Outcome
-    ensures { (before : ℕ) (counts : List ℕ) → result_of result counts
-        ≡ cond ok (result_with message (known due own counts)) (closes (known before own counts)) }
-{
-    if ok {
-        return Outcome { message, due, own };
+    fn version_due(&mut self, heard: Record) -> Message
+        ensures { Leaves self.old self.new result (version_step (known_by self.old) (told heard)) }
+    {
+        let ok = heard.is_version() & heard.without_descriptor();
+        if !ok {
+            return self.close();
+        }
+        self.step = Step::Id;
+        Message::Version
     }
-    closed(own)
-}
 
-fn version_due(own: u32, kind: u8, number: i64) -> Outcome
-    ensures { (due : ℕ) (counts : List ℕ) → result_of result counts ≡ version_step (known due own counts) (record_of kind number) }
-{
-    let ok = is_version(number) & (kind == 0);
-    proceed(ok, Message::Version, ID_DUE, own)
-}
-
-fn id_due(own: u32, kind: u8, number: i64) -> Outcome
-    ensures { (due : ℕ) (counts : List ℕ) → result_of result counts ≡ id_step (known due own counts) (record_of kind number) }
-{
-    let ok = is_id(number) & (kind == 0);
-    if ok {
-        let id = id_of(number);
-        return Outcome {
-            message: Message::Id(id),
-            due: MEMORY_DUE,
-            own: id as u32,
+    fn id_due(&mut self, heard: Record) -> Message
+        ensures { Leaves self.old self.new result (id_step (known_by self.old) (told heard)) }
+    {
+        let Some(id) = heard.id() else {
+            return self.close();
         };
+        if !heard.without_descriptor() {
+            return self.close();
+        }
+        self.step = Step::Memory;
+        self.own = u32::from(id);
+        Message::Id(id)
     }
-    closed(own)
-}
 
-fn memory_due(own: u32, kind: u8, number: i64) -> Outcome
-    ensures { (due : ℕ) (counts : List ℕ) → result_of result counts ≡ memory_step (known due own counts) (record_of kind number) }
-{
-    let ok = is_memory(number) & (kind == 1);
-    proceed(ok, Message::Memory, PEERS_DUE, own)
-}
+    fn memory_due(&mut self, heard: Record) -> Message
+        ensures { Leaves self.old self.new result (memory_step (known_by self.old) (told heard)) }
+    {
+        let ok = heard.is_memory() & heard.with_descriptor();
+        if !ok {
+            return self.close();
+        }
+        self.step = Step::Peers;
+        Message::Memory
+    }
 
-// One vector more, up to the configured number.
-fn add(own: u32, counts: &mut [u8], vectors: u64, id: u8) -> Outcome
-    requires { (length counts.old ≡ ids) × (vectors ≤ most_vectors) × (id < ids) }
-    ensures { result_of result counts.new ≡ adds vectors (known peers_due own counts.old) id }
-{
-    let at = id as usize;
-    let count = counts[at];
-    if (count as u64) < vectors {
-        counts[at] = count + 1;
-        return Outcome {
-            message: Message::Vector(id, count + 1),
-            due: PEERS_DUE,
-            own,
+    // One vector more, up to the configured number.
+    fn add(&mut self, id: u8) -> Message
+        requires { id < ids }
+        ensures { Leaves self.old self.new result (adds self.old.vectors (known_by self.old) id) }
+    {
+        let at = usize::from(id);
+        let count = self.counts[at];
+        if u64::from(count) < self.vectors {
+            self.counts[at] = count + 1;
+            return Message::Vector(id, count + 1);
+        }
+        Message::Extra(id, count)
+    }
+
+    // Another peer with vectors has left.
+    fn remove(&mut self, id: u8) -> Message
+        requires { id < ids }
+        ensures { Leaves self.old self.new result (removes (known_by self.old) id) }
+    {
+        let at = usize::from(id);
+        let count = self.counts[at];
+        let ok = !(u32::from(id) == self.own) & (0 < count);
+        if !ok {
+            return self.close();
+        }
+        self.counts[at] = 0;
+        Message::Disconnected(id)
+    }
+
+    fn peers_due(&mut self, heard: Record) -> Message
+        ensures { Leaves self.old self.new result (peers_step self.old.vectors (known_by self.old) (told heard)) }
+    {
+        let Some(id) = heard.id() else {
+            return self.close();
         };
+        if heard.with_descriptor() {
+            return self.add(id);
+        }
+        if heard.without_descriptor() {
+            return self.remove(id);
+        }
+        self.close()
     }
-    Outcome {
-        message: Message::Extra(id, count),
-        due: PEERS_DUE,
-        own,
-    }
-}
 
-// Another peer with vectors has left.
-fn remove(own: u32, counts: &mut [u8], id: u8) -> Outcome
-    requires { (length counts.old ≡ ids) × (id < ids) }
-    ensures { result_of result counts.new ≡ removes (known peers_due own counts.old) id }
-{
-    let at = id as usize;
-    let count = counts[at];
-    let ok = !(id as u32 == own) & (0 < count);
-    if ok {
-        counts[at] = 0;
-        return Outcome {
-            message: Message::Disconnected(id),
-            due: PEERS_DUE,
-            own,
-        };
-    }
-    closed(own)
-}
-
-fn peers_due(own: u32, counts: &mut [u8], vectors: u64, kind: u8, number: i64) -> Outcome
-    requires { (length counts.old ≡ ids) × (vectors ≤ most_vectors) }
-    ensures { result_of result counts.new ≡ peers_step vectors (known peers_due own counts.old) (record_of kind number) }
-{
-    let named = is_id(number);
-    if !named {
-        return closed(own);
-    }
-    let id = id_of(number);
-    if kind == 1 {
-        return add(own, counts, vectors, id);
-    }
-    if kind == 0 {
-        return remove(own, counts, id);
-    }
-    closed(own)
-}
-
-// One whole record.
-pub fn read_record(
-    due: u32,
-    own: u32,
-    counts: &mut [u8],
-    vectors: u64,
-    kind: u8,
-    number: i64,
-) -> Outcome
-    requires { (length counts.old ≡ ids) × (vectors ≤ most_vectors) }
-    ensures { result_of result counts.new ≡ read_record vectors (known due own counts.old) (record_of kind number) }
-{
-    match due {
-        0 => version_due(own, kind, number),
-        ID_DUE => id_due(own, kind, number),
-        MEMORY_DUE => memory_due(own, kind, number),
-        PEERS_DUE => peers_due(own, counts, vectors, kind, number),
-        _ => closed(own),
+    // One whole record.
+    pub fn read_record(&mut self, heard: Record) -> Message
+        ensures { Leaves self.old self.new result (read_record self.old.vectors (known_by self.old) (told heard)) }
+    {
+        match self.step {
+            Step::Version => self.version_due(heard),
+            Step::Id => self.id_due(heard),
+            Step::Memory => self.memory_due(heard),
+            Step::Peers => self.peers_due(heard),
+            Step::Closed => self.close(),
+        }
     }
 }

@@ -4,7 +4,7 @@ use mathlib.Core.Path.{ap, ◌∙◌, sym}
 use lib.Dec.{leb}
 use lib.ListN.{get_or}
 use Rattle.common.specs.Tests.{every, below}
-use Rattle.reader.proofs.GoodLaws.{bound_zero, none_within}
+use Rattle.reader.proofs.GoodLaws.{bound_largest, bound_zero, none_within, step_known}
 use Rattle.reader.specs.Reading.{good}
 use Rattle.reader.specs.Sizes.{ids}
 use Rattle.reader.proofs.refusals.is_good.Goals as goal
@@ -13,9 +13,9 @@ pub returns : goal.returns
 unfolding good every ids
 returns c =
     let a = c.args in
-    let l = c.largest-most in
-    let all = ap (λ (n : ℕ). below n (λ i. leb (get_or a.counts.now i 0) a.vectors)) c.requires in
-    let few = ap (λ (n : ℕ). below n (λ i. leb (get_or a.counts.now i 0) 0)) c.requires in
-    let within = l.ensures a.vectors ∙ all in
-    let none = sym (bound_zero l.result) ∙ l.ensures 0 ∙ few ∙ none_within a.counts.now ids in
-    rw (within, none)
+    let l = c.from-most.ensures ∙ c.largest.ensures in
+    let all = ap (λ (n : ℕ). below n (λ i. leb (get_or a.counts.now i 0) a.vectors)) c.requires.size in
+    let few = ap (λ (n : ℕ). below n (λ i. leb (get_or a.counts.now i 0) 0)) c.requires.size in
+    let within = ap (λ (m : ℕ). leb m a.vectors) l ∙ bound_largest a.counts.now a.vectors ∙ all in
+    let none = sym (bound_zero c.from-most.result) ∙ ap (λ (m : ℕ). leb m 0) l ∙ bound_largest a.counts.now 0 ∙ few ∙ none_within a.counts.now ids in
+    rw (within, none, c.is_after.ensures, c.is_after-2.ensures, c.requires.due, step_known a.step)
