@@ -1,6 +1,6 @@
 -- The checks of R19 to R30 in the parts that the code makes: those of the hub, of what is lent and of the id, and
 -- those of an access. proofs/RefusalLaws.antt shows that together they are the table.
-use Rattle.std.specs.Prelude.{ℕ, ◌+◌, ◌*◌, ◌%◌, ◌<◌, ◌≤◌, Bool, true, false, not, ◌&&◌, ◌||◌, List, [], ◌∷◌, ◌≡◌, eqb, leb, ltb, length, Option, Some, None, IfSome}
+use Rattle.std.specs.Prelude.{ℕ, ◌+◌, ◌*◌, ◌%◌, ◌<◌, ◌≤◌, Bool, true, false, not, ◌||◌, List, [], ◌∷◌, ◌≡◌, eqb, leb, ltb, length, Option, Some, None, IfSome}
 use Rattle.common.specs.Tests.{Row, row}
 use Rattle.device.specs.declared.Settings.{Settings}
 use Rattle.device.specs.Sections.{section_of, somewhere, may_store}
@@ -25,19 +25,19 @@ abbrev pub both_lent : ℕ → ℕ → Lending
 both_lent region records = record { region = Some region; records = Some records }
 
 -- what is lent is another length, or fewer records
-abbrev pub another : Option ℕ → ℕ → Bool
-another None bytes = false
-another (Some region) bytes = not (eqb region bytes)
+abbrev pub other_length : Option ℕ → ℕ → Bool
+other_length None bytes = false
+other_length (Some region) bytes = not (eqb region bytes)
 
-abbrev pub fewer : Option ℕ → ℕ → Bool
-fewer None peers = false
-fewer (Some records) peers = ltb records peers
+abbrev pub fewer_records : Option ℕ → ℕ → Bool
+fewer_records None peers = false
+fewer_records (Some records) peers = ltb records peers
 
 abbrev pub admission : Hub → Lending → ℕ → List Row
 admission hub lent who =
     row 10 (not (sound hub))
-    ∷ row 2 (another lent.region (total hub.settings))
-    ∷ row 11 (fewer lent.records hub.settings.peers)
+    ∷ row 2 (other_length lent.region (total hub.settings))
+    ∷ row 11 (fewer_records lent.records hub.settings.peers)
     ∷ row 3 (leb hub.settings.peers who)
     ∷ row 4 (not (eqb (slot_at hub who).peer.connected 1))
     ∷ []

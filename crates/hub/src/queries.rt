@@ -19,7 +19,9 @@ pub fn is_connected(hub: &[u32], id: u64) -> Result<bool, Refusal>
 {
     match joining::joining_refusal(hub, id) {
         Ok(()) => Ok(false),
-        Err(Refusal::Connected) => Ok(true),
-        Err(refusal) => Err(refusal),
+        Err(refusal) => match refusal {
+            Refusal::Connected => Ok(true),
+            _ => Err(refusal),
+        },
     }
 }

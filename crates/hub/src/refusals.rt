@@ -4,7 +4,7 @@ ghost use Rattle.common.specs.Tests.{first};
 ghost use Rattle.device.specs.Sections.{section_of};
 ghost use Rattle.device.specs.SetUp.{accepted};
 ghost use Rattle.words.specs.Layout.{hub_of};
-ghost use Rattle.hub.specs.Admission.{region_lent, both_lent, admission, allows, size_of, space_rows, range_rows, store_rows, Admitted, Found, Inside, InSection};
+ghost use Rattle.hub.specs.Admission.{region_lent, both_lent, other_length, fewer_records, admission, allows, size_of, space_rows, range_rows, store_rows, Admitted, Found, Inside, InSection};
 ghost use Rattle.hub.specs.Answered.{number_in};
 
 use super::Refusal;
@@ -39,6 +39,18 @@ impl Lending {
             region: Some(region.len() as u64),
             records: Some(records),
         }
+    }
+
+    fn has_other_length(self, bytes: u64) -> bool
+        ensures { result ≡ other_length self.region bytes }
+    {
+        self.region.is_some_and(|region| region != bytes)
+    }
+
+    fn has_fewer_records(self, peers: u64) -> bool
+        ensures { result ≡ fewer_records self.records peers }
+    {
+        self.records.is_some_and(|records| records < peers)
     }
 }
 
@@ -108,11 +120,10 @@ pub fn admitted(hub: &[u32], lent: Lending, id: u64) -> Result<Caller, Refusal>
         return Err(Refusal::UnsoundHub);
     }
     let settings = words::settings(hub);
-    let total = soundness::total(settings);
-    if lent.region.is_some_and(|region| region != total) {
+    if lent.has_other_length(soundness::total(settings)) {
         return Err(Refusal::BadRegion);
     }
-    if lent.records.is_some_and(|records| records < settings.peers) {
+    if lent.has_fewer_records(settings.peers) {
         return Err(Refusal::ShortTable);
     }
     if settings.peers <= id {
