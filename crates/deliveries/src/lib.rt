@@ -13,6 +13,8 @@ use words::Entries;
 
 // Who was delivered to, in ring order, and the vector: a call rings one vector, each id at most once. Address and data stand in
 // the targets' entries, which no ring changes.
+// A count beside an array, and no list with a `push`: the compiler copies that, and a reset at 4 by 4 takes 1.12 of the time.
+// No invariant of the count: one clause asks for it, and `Lists` gives it to each caller.
 #[derive(Clone, Copy)]
 pub struct Deliveries {
     pub count: usize,
@@ -75,8 +77,7 @@ pub fn ring_others(hub: &mut [u32], who: u64) -> Deliveries
     ensures deliveries { Lists (hub_of hub.new) result (Ring.ring_others who (hub_of hub.old)).deliveries }
 {
     let peers = words::settings(hub).peers;
-    // An array of its own, here and in `hand_out`: of a list that grows the compiler makes a copy, and a reset at 4 by 4 takes 1.12
-    // of the time.
+    // An array of its own, here and in `hand_out`: so it is not copied.
     let mut targets = [0; device::MAX_PEERS];
     let mut count = 0;
     for i in 0..peers as u16 {

@@ -1,7 +1,6 @@
 use Prim.Native.Nat.{◌<◌}
-use mathlib.Core.Path.{◌≡◌, refl, ap, ◌∙◌}
+use mathlib.Core.Path.{◌≡◌, refl, ◌∙◌}
 use native.Mathlib.Omega.{arith}
-use lib.ListN.{length}
 use lib.Seq.{length-take-le, get_or-take}
 use Rattle.words.specs.Layout.{hub_of}
 use Rattle.deliveries.proofs.HandedOut.{Fits, filled_next, filled_all}
