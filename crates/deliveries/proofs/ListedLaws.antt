@@ -7,7 +7,7 @@ use native.Mathlib.Numerals.{add-one}
 use native.Mathlib.Omega.{arith}
 use lib.Dec.{eqb}
 use mir.Val.{bool_byte}
-use lib.ListN.{length, take, replicate, length-replicate, length-set, length-append, length-map, length-take}
+use lib.ListN.{length, take, set, replicate, length-replicate, length-set, length-append, length-map, length-take}
 use lib.Seq.{length-take-le, take-suc-set}
 use Rattle.device.proofs.SizeLaws.{max_peers_pos, max_peers_byte}
 use Rattle.device.specs.declared.Delivery.{Delivery}
@@ -19,7 +19,7 @@ use Rattle.device.specs.World.{Hub}
 use Rattle.gate.proofs.RingLaws.{SameEntries, sent_same, apart, Kept, none_kept, ring_kept}
 use Rattle.gate.specs.RingOutcome.{sent_at, outcome_list}
 use Rattle.deliveries.specs.declared.Deliveries.{Deliveries}
-use Rattle.deliveries.specs.Listed.{listed, Lists, with_target, ring_but}
+use Rattle.deliveries.specs.Listed.{listed, Lists, ring_but}
 
 -- an id fits a byte of the list, and is the same there
 pub id_fits : (i : ℕ) → i < max_peers → i < 2 ^ 8
@@ -85,25 +85,27 @@ module _ (hub after : Hub) (t : PeerId) (v : Vector) (delivered : Bool) (left : 
       by true is = ring_sent is (rw is at number) (same is)
       by false is = ring_lost is (rw is at number)
 
--- a list of deliveries of vector 0 with a ring's outcome appended
+-- a list of deliveries of vector 0, and one with a ring's outcome appended
+abbrev pub of_zero : ℕ → List ℕ → Deliveries
+of_zero count targets = record { count = count; vector = vector 0; targets = targets }
+
 pub record More (hub : Hub) (t : ℕ) (before : Deliveries) (delivered : Bool) (after : Deliveries) : Type 0 where
   pub few : after.count ≤ before.count + 1
   pub room : length after.targets ≡ length before.targets
-  pub same : after.vector ≡ before.vector
   pub all : listed hub after ≡ listed hub before ++ outcome_list hub (peer_id t) (vector 0) delivered
 
 pub more_lost : (hub : Hub) (t : ℕ) (d : Deliveries) → More hub t d false d
 unfolding outcome_list
-more_lost hub t d = record { few = omega arith; room = refl; same = refl; all = sym (append-nil (listed hub d)) }
+more_lost hub t d = record { few = omega arith; room = refl; all = sym (append-nil (listed hub d)) }
 
-pub more_delivered : (hub : Hub) (t : ℕ) (d : Deliveries) → d.vector ≡ vector 0 → d.count < length d.targets → More hub t d true (with_target d t)
+pub more_delivered : (hub : Hub) (t count : ℕ) (targets : List ℕ) → count < length targets
+    → More hub t (of_zero count targets) true (of_zero (count + 1) (set targets count t))
 unfolding outcome_list listed
-more_delivered hub t d of_zero l =
+more_delivered hub t count targets l =
     record {
       few = omega arith;
       room = simp length-set;
-      same = refl;
-      all = rw (of_zero, add-one, take-suc-set d.targets d.count t l) (map-append (sent_at hub (vector 0)) (take d.count d.targets) (t ∷ []));
+      all = rw (add-one, take-suc-set targets count t l) (map-append (sent_at hub (vector 0)) (take count targets) (t ∷ []));
     }
 
 -- a turn, and all turns, keep settings and entries and deliver at most one interrupt each

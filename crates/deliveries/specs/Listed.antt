@@ -1,6 +1,6 @@
 -- The list that a by-value list of deliveries is: a record for each of its first targets, as many as its count says. And one turn
 -- of the rings at every other id.
-use Rattle.std.specs.Prelude.{ℕ, ◌+◌, cond, List, [], ◌++◌, map, ◌≡◌, eqb, length, take, drop, set}
+use Rattle.std.specs.Prelude.{ℕ, cond, List, [], ◌++◌, map, ◌≡◌, eqb, length, take, drop}
 use Rattle.device.specs.declared.Delivery.{Delivery}
 use Rattle.device.specs.Ring.{Rung, rung, ring, peer_id, vector}
 use Rattle.device.specs.World.{Hub}
@@ -15,10 +15,6 @@ listed hub d = map (sent_at hub d.vector) (take d.count d.targets)
 pub record Lists (hub : Hub) (d : Deliveries) (ds : List Delivery) : Type 0 where
   pub deliveries : listed hub d ≡ ds
   pub count : d.count ≡ length ds
-
--- one target more
-abbrev pub with_target : Deliveries → ℕ → Deliveries
-with_target d target = record { count = d.count + 1; vector = d.vector; targets = set d.targets d.count target }
 
 -- the sender is not rung
 unfoldable pub ring_but : ℕ → Hub → ℕ → Rung

@@ -32,6 +32,7 @@ impl Places {
     }
 }
 
+// Two loops and not one with a closure over an entry: that tests the masks of each entry, in 1.3 of the time at 64 by 16.
 // No word of a run has a bit set but those of the masks, in the first column and in the last.
 fn words_only(hub: &[u32], at: Places, low: u32, control: u32) -> bool
     requires { at.start + at.size + 3 * at.column ≤ length hub.now }

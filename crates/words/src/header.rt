@@ -36,6 +36,7 @@ pub fn settings(hub: &[u32]) -> Settings
     settings_from(hub)
 }
 
+// By hand, since the array and `Settings` are of other crates, and crate device may not change: no `From` can stand here.
 fn settings_words(s: Settings) -> [u32; 10]
     requires { Storable s }
     ensures { result ≡ settings_words s }

@@ -2,6 +2,8 @@
 // hub that the words are.
 #![tactic(auto)]
 
+// No struct carries what is known of the words, as `Known`: a host lends them anew with each call of the C interface.
+
 mod columns;
 mod entries;
 mod header;

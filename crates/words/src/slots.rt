@@ -27,14 +27,14 @@ pub fn put_fresh(hub: &mut [u32], s: Settings)
 {
     let size = s.peers as usize * s.vectors as usize;
     let start = 10 + 8 * s.peers as usize + 3 * size;
-    hub[..start].fill(0);
+    super::parts::fill(&mut hub[..start], 0);
     super::put_settings(hub, s);
-    hub[start..start + size].fill(Entry::CONTROL);
+    super::parts::fill(&mut hub[start..start + size], Entry::CONTROL);
 }
 
 // All words zero, whatever their number.
 pub fn put_zero(hub: &mut [u32])
     ensures { hub.new ≡ replicate (length hub.old) 0 }
 {
-    hub.fill(0);
+    super::parts::fill(hub, 0);
 }

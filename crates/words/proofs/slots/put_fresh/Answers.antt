@@ -50,7 +50,7 @@ slice_bounds-fill-end-3 c =
     let start : ℕ = 10 + 8 * s.peers + 3 * size in
     let inside : start + size ≤ length ws = omega (arith, c.requires.size) in
     let taken : length (take start ws) ≡ start = length-take-le start ws (omega arith) in
-    omega (arith, kept ws c.fill.new.self c.put_settings.new.hub start c.put_settings.auto.hub (c.fill.ensures.len ∙ taken) (omega arith))
+    omega (arith, kept ws c.fill.new.part c.put_settings.new.hub start c.put_settings.auto.hub (c.fill.auto.part ∙ taken) (omega arith))
 
 pub returns : goal.returns
 unfolding hub_words
@@ -62,10 +62,10 @@ returns c =
     let start : ℕ = 10 + 8 * s.peers + 3 * size in
     let inside : start + size ≤ length ws = omega (arith, c.requires.size) in
     let taken : length (take start ws) ≡ start = length-take-le start ws (omega arith) in
-    let length_mid : length mid ≡ length ws = kept ws c.fill.new.self mid start c.put_settings.auto.hub (c.fill.ensures.len ∙ taken) (omega arith) in
+    let length_mid : length mid ≡ length ws = kept ws c.fill.new.part mid start c.put_settings.auto.hub (c.fill.auto.part ∙ taken) (omega arith) in
     let width : start + size - start ≡ size = omega arith in
-    let zeros : c.fill.new.self ≡ replicate start 0 = c.fill.ensures.after (λ y e. e) ∙ ap (λ (n : ℕ). replicate n 0) taken in
-    let ones : c.fill-2.new.self ≡ replicate size 1 = c.fill-2.ensures.after (λ y e. e)
+    let zeros : c.fill.new.part ≡ replicate start 0 = c.fill.ensures ∙ ap (λ (n : ℕ). replicate n 0) taken in
+    let ones : c.fill-2.new.part ≡ replicate size 1 = c.fill-2.ensures
     ∙ ap (λ (n : ℕ). replicate n 1) (length-take-le _ (drop start mid) (rw length-drop (omega (arith, length_mid))) ∙ width) in
     let first : Filled ws (put_mid 0 start ws (replicate start 0)) 0 0 start = filled_part ws 0 start 0 (omega arith) in
     rw (ones, width)
