@@ -93,26 +93,26 @@ pub fn ivshmem_protocol_read(
     }
 }
 
-// `server::start`.
+// `server::start`, its answer in numbers.
 #[unsafe(no_mangle)]
 pub extern "C" fn ivshmem_protocol_start(vectors: u64) -> Started
     ensures { result ≡ started vectors }
 {
-    server::start(vectors)
+    Started::from(server::start(vectors))
 }
 
-// `server::join`.
+// `server::join`, its answer in numbers.
 #[unsafe(no_mangle)]
 pub extern "C" fn ivshmem_protocol_join(server: Server, buffer: &mut [u8]) -> Served
     ensures { Serves (join server (length buffer.old)) buffer.old buffer.new result }
 {
-    server::join(server, buffer)
+    Served::of(server, server::join(server, buffer))
 }
 
-// `server::leave`.
+// `server::leave`, its answer in numbers.
 #[unsafe(no_mangle)]
 pub extern "C" fn ivshmem_protocol_leave(server: Server, id: u64, buffer: &mut [u8]) -> Served
     ensures { Serves (leave server id (length buffer.old)) buffer.old buffer.new result }
 {
-    server::leave(server, id, buffer)
+    Served::of(server, server::leave(server, id, buffer))
 }

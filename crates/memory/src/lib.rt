@@ -21,7 +21,7 @@ pub fn load(region: &[u8], offset: usize, buffer: &mut [u8])
 }
 
 // Stores bytes from an offset on, and changes no other byte.
-#[tactic(auto, using(crate::proofs::PasteLaws::part_back))]
+#[tactic(auto, using(common::proofs::StoredLaws::part_back))]
 pub fn store(region: &mut [u8], offset: usize, stored: &[u8])
     requires { offset + length stored.now ≤ length region.old }
     ensures { region.new ≡ sets region.old offset stored.now }
@@ -31,7 +31,7 @@ pub fn store(region: &mut [u8], offset: usize, stored: &[u8])
 }
 
 // A word's four bytes, little-endian.
-#[tactic(auto, unfolding(common::specs::Bytes::bytes))]
+#[tactic(auto, using(common::proofs::StoredLaws::four_bytes))]
 fn put_word(entry: &mut [u8], value: u32)
     requires { length entry.old ≡ 4 }
     ensures { «entry».new ≡ bytes 4 value }
@@ -40,7 +40,7 @@ fn put_word(entry: &mut [u8], value: u32)
 }
 
 // The State Table entry of a peer takes a value: its four bytes are lent on from the middle of the region.
-#[tactic(auto, using(crate::proofs::PasteLaws::part_back, common::proofs::ByteLaws::length_bytes))]
+#[tactic(auto, using(common::proofs::StoredLaws::part_back, common::proofs::ByteLaws::length_bytes))]
 pub fn put_state(region: &mut [u8], id: usize, value: u32)
     requires { 4 * id + 4 ≤ length region.old }
     ensures { region.new ≡ sets region.old (4 * id) (bytes 4 value) }

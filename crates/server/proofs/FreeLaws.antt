@@ -1,21 +1,22 @@
 -- The lowest free id, and how many ids are joined.
-use Prim.Native.Nat.{ℕ, zero, suc, ◌+◌, ◌-◌, ◌/◌, ◌≤◌, ◌<◌, ◌^◌}
+use Prim.Native.Nat.{ℕ, zero, suc, ◌+◌, ◌-◌, ◌≤◌, ◌<◌, ◌^◌}
 use mathlib.Core.Bool.{true, false, not, true≢false}
 use mathlib.Core.List.{List, [], ◌∷◌, ◌++◌, append-nil}
 use mathlib.Core.Path.{◌≡◌, refl, sym, ◌∙◌}
+use native.Mathlib.Nat.{div-eq_of_lt}
 use native.Mathlib.Omega.{arith}
-use lib.Dec.{eqb, ltb}
 use lib.ListN.{length, get_or, length-append, get_or-append}
 use lib.Seq.{get_or-append_seam}
-use borrow.Author.Tests.{eqb-true, lt-ltb, ltb-true, not-false}
-use Rattle.common.proofs.TestLaws.{and_left, by_equal}
+use Rattle.common.proofs.TestLaws.{by_equal}
 use Rattle.reader.proofs.ReadLaws.{by_bool, by_less}
 use Rattle.reader.specs.Sizes.{ids}
-use Rattle.server.proofs.JoinedLaws.{joined_below_lem, joined_beyond, bits_gone}
+use Rattle.std.proofs.lemmas.Nat.{leading_length}
+use Rattle.std.proofs.lemmas.Nat.Bits.{bit_at_ones, bit_at-trailing_ones}
+use Rattle.std.specs.Int.{w64, bit_at, leading_zeros, trailing_ones}
+use Rattle.server.proofs.JoinedLaws.{is_bit, joined_below_lem, joined_beyond, bits_gone}
 use Rattle.server.proofs.ListLaws.{each_append}
 use Rattle.server.specs.Clients.{is_joined, joined_at, joined_below, clients, free_from, lowest_free, Lowest, ClientsAreListed}
 use Rattle.server.specs.Messages.{each_of}
-use Rattle.server.specs.Parts.{any_from}
 
 -- where an id is joined the search goes on behind it, else it ends there
 pub free_next : (n id joined : ℕ) → is_joined joined id ≡ true → free_from (suc n) id joined ≡ free_from n (suc id) joined
@@ -41,6 +42,41 @@ lowest_from (suc n) id joined s b =
 pub lowest_is_free : (joined : ℕ) → Lowest joined (lowest_free joined)
 unfolding lowest_free
 lowest_is_free joined = lowest_from ids 0 joined (omega arith) (λ i l. absurd (omega arith))
+
+-- There is one such id, which the trailing ones count.
+lowest_is : (joined id : ℕ) → Lowest joined id → lowest_free joined ≡ id
+lowest_is joined id l =
+    let m = lowest_is_free joined in
+    by_less (lowest_free joined) id (λ h. absurd (true≢false (sym (l.before (lowest_free joined) h) ∙ m.free)))
+    (λ h. by_less id (lowest_free joined) (λ k. absurd (true≢false (sym (m.before id k) ∙ l.free))) (λ k. omega arith))
+
+zero_free : (joined i : ℕ) → i < ids → bit_at joined i ≡ 0 → is_joined joined i ≡ false
+zero_free joined i h e = is_bit joined i h ∙ rw e
+
+one_joined : (joined i : ℕ) → i < ids → bit_at joined i ≡ 1 → is_joined joined i ≡ true
+one_joined joined i h e = is_bit joined i h ∙ rw e
+
+all_ones : lowest_free (2 ^ 64 - 1) ≡ 64
+unfolding ids
+all_ones =
+    lowest_is (2 ^ 64 - 1) 64 (record {
+      within = omega arith;
+      free = joined_beyond (2 ^ 64 - 1) 64 (omega arith);
+      before = λ i l. one_joined (2 ^ 64 - 1) i l (bit_at_ones 64 i l);
+    })
+
+pub lowest_counted : (joined : ℕ) → joined < 2 ^ 64 → lowest_free joined ≡ trailing_ones w64 joined
+unfolding ids lib.Count.count_trailing_zeros
+lowest_counted joined f =
+    by_less (joined + 1) (2 ^ 64)
+    (λ h.
+    let t = bit_at-trailing_ones w64 joined h in
+    lowest_is joined (trailing_ones w64 joined) (record {
+      within = omega (arith, t.0);
+      free = zero_free joined (trailing_ones w64 joined) t.0 t.1;
+      before = λ i l. one_joined joined i (omega (arith, t.0)) (t.2 i l);
+    }))
+    (λ h. let all : joined ≡ 2 ^ 64 - 1 = omega arith in rw all all_ones)
 
 -- the joined ids below a number: one turn more
 module _ (joined : ℕ) where
@@ -101,18 +137,10 @@ each_joined joined f g same (suc n) =
     (by_joined joined (λ l. each_of g (joined_below n joined) ++ each_of f l ≡ each_of g (joined_below n joined) ++ each_of g l) n
     (λ e. rw (same n e)) (λ e. refl))
 
--- where there are joined ids from one on it is one of them or before them, and where there are none those below it are all
-pub any_below : (joined id : ℕ) → any_from joined id ≡ true → id < ids
-unfolding any_from
-any_below joined id e = ltb-true id ids (and_left (ltb id ids) (not (eqb (joined / 2 ^ id) 0)) e)
-
-module _ (joined id : ℕ) (e : any_from joined id ≡ false) where
-  nothing_left : id < ids → joined / 2 ^ id ≡ 0
-  unfolding any_from
-  nothing_left h = eqb-true _ _ (not-false (eqb (joined / 2 ^ id) 0) (rw (lt-ltb id ids h) at e))
-
+-- where a number ends no id is joined, and those below are all
+module _ (joined id : ℕ) (e : joined < 2 ^ id) where
   no_more : (j : ℕ) → id ≤ j → is_joined joined j ≡ false
-  no_more j l = by_less id ids (λ h. bits_gone joined id j l (nothing_left h)) (λ h. joined_beyond joined j (omega arith))
+  no_more j l = bits_gone joined id j l (div-eq_of_lt e)
 
   same_below : (d : ℕ) → joined_below (d + id) joined ≡ joined_below id joined
   same_below zero = let n : 0 + id ≡ id = omega arith in rw n
@@ -122,6 +150,15 @@ module _ (joined id : ℕ) (e : any_from joined id ≡ false) where
 
   pub all_below : id ≤ ids → clients joined ≡ joined_below id joined
   all_below l = let n : ids - id + id ≡ ids = omega arith in rw n at (same_below (ids - id))
+
+-- it ends before its leading zeros
+pub end_of : (joined : ℕ) → joined < 2 ^ 64
+    → (ids - leading_zeros w64 joined ≤ ids) × (clients joined ≡ joined_below (ids - leading_zeros w64 joined) joined)
+unfolding ids
+end_of joined f =
+    let l = leading_length 64 joined f in
+    let n : 64 - leading_zeros w64 joined ≡ l.0 = omega (arith, l.1) in
+    (omega arith, rw n (all_below joined l.0 l.2 (omega (arith, l.1))))
 
 -- the list of joined ids below a number: all of them, ascending, and all below it
 record ListedBelow (joined n : ℕ) (to : List ℕ) : Type 0 where

@@ -1,36 +1,19 @@
 -- The bytes that the code writes are those of the messages.
-use Prim.Native.Nat.{ℕ, zero, suc, ◌+◌, ◌*◌, ◌/◌, ◌%◌, ◌<◌}
-use mathlib.Core.Bool.{true, false}
+use Prim.Native.Nat.{ℕ, zero, suc, ◌+◌, ◌*◌}
 use mathlib.Core.List.{List, [], ◌∷◌, ◌++◌}
 use mathlib.Core.Path.{◌≡◌, refl, ◌∙◌}
 use native.Mathlib.Omega.{arith}
-use lib.IntN.{pos}
-use lib.ListN.{length, replicate}
+use lib.ListN.{length}
 use lib.Seq.{take_at, drop-append-add}
 use Rattle.common.specs.Bytes.{bytes}
-use Rattle.reader.proofs.SizeLaws.{ids_byte}
-use Rattle.reader.specs.Records.{Record, record_of}
-use Rattle.reader.specs.Sizes.{ids}
-use Rattle.server.proofs.FreeLaws.{each_joined}
-use Rattle.server.proofs.JoinedLaws.{joined_below_lem}
+use Rattle.reader.specs.Records.{Record}
 use Rattle.server.proofs.ListLaws.{each_append, each_map, each_each, each_alike, each_same, each_length}
 use Rattle.server.specs.Clients.{clients}
-use Rattle.server.specs.Messages.{Sent, to, all_to, each_of, memory, vector_of, vectors_of, has_left, to_joiner, to_others}
-use Rattle.server.specs.Messages.{join_messages, leave_messages, unsigned, bytes_of, sent_bytes, all_bytes, MessagesStandInTens}
-use Rattle.server.specs.Parts.{message_of, written, written_times, notice_of, notice_to, notice_bytes, notices_bytes, start_bytes, join_bytes}
-
--- a small number, and -1
-small_bytes : (n : ℕ) → n < 256 → bytes 8 n ≡ n ∷ replicate 7 0
-unfolding bytes
-small_bytes n h = let low : n % 256 ≡ n = omega arith in let high : n / 256 ≡ 0 = omega arith in rw (low, high)
-
-pub sent_small : (client kind n : ℕ) → n < 256 → sent_bytes (to client (record_of kind (pos n))) ≡ written (message_of client kind n 0)
-unfolding sent_bytes bytes_of unsigned
-sent_small client kind n h = rw (small_bytes n h)
-
-pub sent_memory : (client : ℕ) → sent_bytes (to client memory) ≡ written (message_of client 1 255 255)
-unfolding sent_bytes bytes_of unsigned bytes
-sent_memory client = refl
+use Rattle.server.specs.Messages.{Sent, to, all_to, each_of, vector_of, vectors_of, has_left, to_joiner, to_others}
+use Rattle.server.specs.Messages.{join_messages, leave_messages, bytes_of, sent_bytes, all_bytes, MessagesStandInTens}
+use Rattle.server.specs.declared.messages.Said.TheVariants.{Vector, Gone}
+use Rattle.server.specs.declared.notices.Notice.TheVariants.{ToJoiner, OfJoiner, OfLeaver}
+use Rattle.server.specs.Parts.{message_of, written, written_times, notice_times, notice_to, notice_bytes, notices_bytes, start_bytes, join_bytes}
 
 -- each of the ten bytes
 pub sent_ten : (m : Sent) → length (sent_bytes m) ≡ 10
@@ -54,49 +37,40 @@ messages_stand_in_tens (x ∷ sent) (suc k) m h =
     rw (n, drop-append-add (sent_bytes x) (all_bytes sent) (10 * k)) (messages_stand_in_tens sent k m (omega arith))
 
 -- the vectors of an id for a client, one notice of two
-module _ (vectors id : ℕ) (h : id < 256) where
-  vectors_to : (client : ℕ) → each_of sent_bytes (all_to client (vectors_of vectors id)) ≡ written_times vectors (message_of client 1 id 0)
+module _ (vectors id : ℕ) where
+  vectors_to : (client : ℕ) → each_of sent_bytes (all_to client (vectors_of vectors id)) ≡ written_times vectors (message_of client (Vector id))
   vectors_to client =
       each_map sent_bytes (to client) (vectors_of vectors id)
-      ∙ each_alike (λ r. sent_bytes (to client r)) written (vector_of id) (message_of client 1 id 0) (sent_small client 1 id h) vectors
+      ∙ each_alike (λ r. sent_bytes (to client r)) written (vector_of id) (message_of client (Vector id)) refl vectors
 
-  others_bytes : (others : List ℕ) → all_bytes (to_others vectors others id) ≡ notices_bytes (notice_of 1 id vectors false) others
-  unfolding all_bytes to_others notice_to
+  others_bytes : (others : List ℕ) → all_bytes (to_others vectors others id) ≡ notices_bytes (OfJoiner id vectors) others
+  unfolding all_bytes to_others notice_to notice_times
   others_bytes others =
       each_each sent_bytes (λ other. all_to other (vectors_of vectors id)) others
-      ∙ each_same (λ other. each_of sent_bytes (all_to other (vectors_of vectors id))) (notice_bytes (notice_of 1 id vectors false)) vectors_to
-      others
+      ∙ each_same (λ other. each_of sent_bytes (all_to other (vectors_of vectors id))) (notice_bytes (OfJoiner id vectors)) vectors_to others
 
 -- a record for the joiner
 abbrev to_one : ℕ → Record → List ℕ
 to_one id r = sent_bytes (to id r)
 
-module _ (vectors joined id : ℕ) (h : id < ids) where
-  small : id < 256
-  small = omega (arith, ids_byte)
-
+module _ (vectors joined id : ℕ) where
   -- the vectors of the others, for the joiner
-  known_bytes : each_of (to_one id) (each_of (vectors_of vectors) (clients joined)) ≡ notices_bytes (notice_of 1 id vectors true) (clients joined)
-  unfolding notice_to
+  known_bytes : each_of (to_one id) (each_of (vectors_of vectors) (clients joined)) ≡ notices_bytes (ToJoiner id vectors) (clients joined)
+  unfolding notice_to notice_times
   known_bytes =
       each_each (to_one id) (vectors_of vectors) (clients joined)
-      ∙ each_joined joined (λ other. each_of (to_one id) (vectors_of vectors other)) (notice_bytes (notice_of 1 id vectors true))
-      (λ other e.
-      each_alike (to_one id) written (vector_of other) (message_of id 1 other 0)
-      (sent_small id 1 other (omega (arith, ids_byte, joined_below_lem joined other e))) vectors) ids
+      ∙ each_same (λ other. each_of (to_one id) (vectors_of vectors other)) (notice_bytes (ToJoiner id vectors))
+      (λ other. each_alike (to_one id) written (vector_of other) (message_of id (Vector other)) refl vectors) (clients joined)
 
-  own_bytes : each_of (to_one id) (vectors_of vectors id) ≡ written_times vectors (message_of id 1 id 0)
-  own_bytes = each_alike (to_one id) written (vector_of id) (message_of id 1 id 0) (sent_small id 1 id small) vectors
+  own_bytes : each_of (to_one id) (vectors_of vectors id) ≡ written_times vectors (message_of id (Vector id))
+  own_bytes = each_alike (to_one id) written (vector_of id) (message_of id (Vector id)) refl vectors
 
   joiner_bytes : all_bytes (all_to id (to_joiner vectors (clients joined) id))
-      ≡ start_bytes id ++ notices_bytes (notice_of 1 id vectors true) (clients joined) ++ written_times vectors (message_of id 1 id 0)
-  unfolding all_bytes to_joiner each_of
+      ≡ start_bytes id ++ notices_bytes (ToJoiner id vectors) (clients joined) ++ written_times vectors (message_of id (Vector id))
+  unfolding all_bytes to_joiner each_of sent_bytes bytes_of bytes
   joiner_bytes =
       each_map sent_bytes (to id) (to_joiner vectors (clients joined) id)
       ∙ rw (
-        sent_small id 0 0 (omega arith),
-        sent_small id 0 id small,
-        sent_memory id,
         each_append (to_one id) (each_of (vectors_of vectors) (clients joined)) (vectors_of vectors id),
         known_bytes,
         own_bytes,
@@ -106,15 +80,12 @@ module _ (vectors joined id : ℕ) (h : id < ids) where
   unfolding join_messages
   join_bytes_lem =
       all_append (all_to id (to_joiner vectors (clients joined) id)) (to_others vectors (clients joined) id)
-      ∙ rw (joiner_bytes, others_bytes vectors id small (clients joined))
+      ∙ rw (joiner_bytes, others_bytes vectors id (clients joined))
 
 -- who left, for each that stays
-pub leave_bytes : (joined id : ℕ) → id < ids
-    → all_bytes (leave_messages (clients joined) id) ≡ notices_bytes (notice_of 0 id 1 false) (clients joined)
-unfolding all_bytes leave_messages notice_to
-leave_bytes joined id h =
+pub leave_bytes : (joined id : ℕ) → all_bytes (leave_messages (clients joined) id) ≡ notices_bytes (OfLeaver id) (clients joined)
+unfolding all_bytes leave_messages notice_to notice_times
+leave_bytes joined id =
     each_each sent_bytes (λ other. to other (has_left id) ∷ []) (clients joined)
-    ∙ each_same (λ other. each_of sent_bytes (to other (has_left id) ∷ [])) (notice_bytes (notice_of 0 id 1 false))
-    (λ other.
-    each_alike sent_bytes written (to other (has_left id)) (message_of other 0 id 0) (sent_small other 0 id (omega (arith, ids_byte))) 1)
-    (clients joined)
+    ∙ each_same (λ other. each_of sent_bytes (to other (has_left id) ∷ [])) (notice_bytes (OfLeaver id))
+    (λ other. each_alike sent_bytes written (to other (has_left id)) (message_of other (Gone id)) refl 1) (clients joined)

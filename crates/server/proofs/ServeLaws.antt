@@ -13,13 +13,16 @@ use Rattle.common.specs.Lists.{over}
 use Rattle.common.specs.Tests.{row, first}
 use Rattle.reader.proofs.ReadLaws.{by_bool, by_less}
 use Rattle.reader.specs.Sizes.{ids, most_vectors}
+use Rattle.std.specs.Prelude.{Err}
+use Rattle.server.specs.declared.refusals.Refusal.{Refusal}
+use Rattle.server.specs.declared.refusals.Refusal.TheVariants.{VectorsOutOfRange, NotJoined, StateUnsound, BufferTooSmall, NoneFree}
 use Rattle.server.specs.declared.Server.{Server}
 use Rattle.server.proofs.FreeLaws.{lowest_is_free}
 use Rattle.server.proofs.MessageLaws.{all_length}
 use Rattle.server.proofs.SetsLaws.{sets_over}
 use Rattle.server.specs.Clients.{is_joined, lowest_free}
 use Rattle.server.specs.Messages.{Sent, each_of, all_bytes, buffer_bytes}
-use Rattle.server.specs.Serving.{Outcome, server_of, in_range, started, done, refused_by, join_as, joins, TakesLowest, JoinsTakeTheLowest, leave_as, leaves, refusal, join, leave, answer_of, Serves}
+use Rattle.server.specs.Serving.{Outcome, server_of, in_range, started, done, refused_by, join_as, joins, TakesLowest, JoinsTakeTheLowest, leave_as, leaves, refusal_number, served_as, refusal, join, leave, answer_of, Serves}
 
 -- a start: nobody is joined, and the number of vectors is the one that it was handed, if that is in its range
 pub nobody : (vectors : ℕ) → (started vectors).server.joined ≡ 0
@@ -58,6 +61,14 @@ pub serves_refused : (number : ℕ) (s : Server) (l : List ℕ) → Serves (refu
 unfolding over all_bytes each_of
 serves_refused number s l = record { answer = refl; buffer = refl }
 
+-- no refusal has the number of an accepted call
+number_some : (r : Refusal) → refusal_number r ≡ 0 → ⊥
+number_some VectorsOutOfRange z = omega (arith, z)
+number_some NotJoined z = omega (arith, z)
+number_some StateUnsound z = omega (arith, z)
+number_some BufferTooSmall z = omega (arith, z)
+number_some NoneFree z = omega (arith, z)
+
 -- a call that is refused at first, or goes on
 module _ (s : Server) (room : ℕ) where
   pub join_refused : (refusal s room ≡ 0 → ⊥) → join s room ≡ refused_by (refusal s room) s
@@ -86,6 +97,17 @@ module _ (s : Server) (room : ℕ) where
   has_room e =
       ltb-false room buffer_bytes
       (first_zero 10 (ltb room buffer_bytes) [] (first_zero 9 (not (in_range s.vectors)) (row 11 (ltb room buffer_bytes) ∷ []) e).1).0
+
+-- what a call gives that is refused at first
+module _ (s : Server) (l : List ℕ) (r : Refusal) (e : refusal s (length l) ≡ refusal_number r) where
+  refused : refusal s (length l) ≡ 0 → ⊥
+  refused z = number_some r (sym e ∙ z)
+
+  pub join_refusal : Serves (join s (length l)) l l (served_as s (Err r))
+  join_refusal = rw (join_refused s (length l) refused, e) (serves_refused (refusal_number r) s l)
+
+  pub leave_refusal : (id : ℕ) → Serves (leave s id (length l)) l l (served_as s (Err r))
+  leave_refusal id = rw (leave_refused s (length l) id refused, e) (serves_refused (refusal_number r) s l)
 
 -- a join with a free id, or with none; a leave of a joined id, or of none
 module _ (s : Server) where

@@ -1,8 +1,11 @@
 -- C-18: the calls, and when they are refused (R97, R102, R103).
-use Rattle.std.specs.Prelude.{ℕ, ◌<◌, Bool, true, cond, not, ◌&&◌, List, [], ◌∷◌, ◌≡◌, eqb, leb, ltb, length}
+use Rattle.std.specs.Prelude.{ℕ, ◌<◌, Bool, true, cond, not, ◌&&◌, List, [], ◌∷◌, ◌≡◌, Result, Ok, Err, eqb, leb, ltb, length}
 use Rattle.common.specs.Lists.{over}
 use Rattle.common.specs.Tests.{row, first}
 use Rattle.reader.specs.Sizes.{ids, most_vectors}
+use Rattle.server.specs.declared.Accepted.{Accepted}
+use Rattle.server.specs.declared.refusals.Refusal.{Refusal}
+use Rattle.server.specs.declared.refusals.Refusal.TheVariants.{VectorsOutOfRange, NotJoined, StateUnsound, BufferTooSmall, NoneFree}
 use Rattle.server.specs.declared.Served.{Served}
 use Rattle.server.specs.declared.Server.{Server}
 use Rattle.server.specs.declared.Started.{Started}
@@ -18,6 +21,19 @@ in_range vectors = leb 1 vectors && leb vectors most_vectors
 
 abbrev pub begun : ℕ → Server → Started
 begun number s = record { number = number; server = s }
+
+-- the numbers that stand for refusals (R97, R98, R100, R102)
+abbrev pub refusal_number : Refusal → ℕ
+refusal_number VectorsOutOfRange = 1
+refusal_number NotJoined = 4
+refusal_number StateUnsound = 10
+refusal_number BufferTooSmall = 11
+refusal_number NoneFree = 12
+
+-- what C gets for a start, accepted or refused
+abbrev pub started_as : Result Server Refusal → Started
+started_as (Ok s) = begun 0 s
+started_as (Err r) = begun (refusal_number r) (server_of 0 0)
 
 -- R97: nobody is joined; 1 for a number of vectors outside 1 to 16, with a state that every call refuses
 unfoldable pub started : (vectors : ℕ) → Started
@@ -79,6 +95,11 @@ JoinsTakeTheLowest = (s : Server) (room : ℕ) → refusal s room ≡ 0 → Take
 -- R103: an answer has the number, the id, how many messages there are, and the state;
 abbrev pub answer_of : Outcome → Served
 answer_of o = record { number = o.number; id = o.id; messages = length o.sent; server = o.server }
+
+-- what C gets for a call on a state, accepted or refused
+abbrev pub served_as : Server → Result Accepted Refusal → Served
+served_as s (Ok a) = record { number = 0; id = a.id; messages = a.messages; server = a.server }
+served_as s (Err r) = record { number = refusal_number r; id = 0; messages = 0; server = s }
 
 -- the messages stand at the front of the buffer, and the bytes behind them are as they were
 pub record Serves (o : Outcome) (before after : List ℕ) (r : Served) : Type 0 where

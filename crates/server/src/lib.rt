@@ -5,17 +5,20 @@
 mod clients;
 mod messages;
 mod notices;
+mod refusals;
 
-ghost use Rattle.std.specs.Prelude.{◌≡◌, ◌*◌, ◌≤◌, ◌<◌, true, false, length};
+ghost use Rattle.std.specs.Prelude.{◌≡◌, ◌*◌, ◌≤◌, ◌<◌, true, false, length, Ok, MatchResult};
 ghost use Rattle.std.proofs.lemmas.List.Edits.{sets};
 ghost use Rattle.reader.specs.Sizes.{ids};
 ghost use Rattle.server.specs.Clients.{is_joined};
 ghost use Rattle.server.specs.Messages.{buffer_bytes};
 ghost use Rattle.server.specs.Parts.{start_bytes, join_bytes};
-ghost use Rattle.server.specs.Serving.{in_range, started, refusal, refused_by, answer_of, join_as, leave_as, join, leave, Serves};
+ghost use Rattle.server.specs.Serving.{in_range, started, refusal, refusal_number, started_as, served_as, join_as, leave_as, join, leave, Serves};
 
-use messages::Message;
+use clients::Clients;
+use messages::{Message, Said};
 use notices::Notice;
+pub use refusals::Refusal;
 
 // The room that every call wants: that of the largest join.
 pub const BUFFER_BYTES: usize = 20350;
@@ -28,6 +31,15 @@ pub struct Server {
     pub vectors: u64,
 }
 
+// An accepted call: the id that joined or left, how many messages there are, and the state.
+#[derive(Clone, Copy)]
+pub struct Accepted {
+    pub id: u8,
+    pub messages: usize,
+    pub server: Server,
+}
+
+// What C gets for a start: a refusal's number or 0, and the state.
 #[repr(C)]
 #[derive(Drop)]
 pub struct Started {
@@ -35,7 +47,25 @@ pub struct Started {
     pub server: Server,
 }
 
-// The answer to a call: a refusal's number or 0, the id that joined or left, how many messages there are, and the state.
+impl From<Result<Server, Refusal>> for Started {
+    ghost from_gives = { λ start s. s ≡ started_as start };
+
+    // A refused start has a state that every call refuses.
+    fn from(start: Result<Server, Refusal>) -> Started {
+        match start {
+            Ok(server) => Started { number: 0, server },
+            Err(refusal) => Started {
+                number: refusal.number(),
+                server: Server {
+                    joined: 0,
+                    vectors: 0,
+                },
+            },
+        }
+    }
+}
+
+// What C gets for a call: a refusal's number or 0, the id that joined or left, how many messages there are, and the state.
 #[repr(C)]
 #[derive(Drop)]
 pub struct Served {
@@ -45,6 +75,29 @@ pub struct Served {
     pub server: Server,
 }
 
+impl Served {
+    // A refused call leaves the state that it was handed.
+    pub fn of(server: Server, call: Result<Accepted, Refusal>) -> Served
+        ensures { result ≡ served_as server call }
+    {
+        match call {
+            Ok(accepted) => Served {
+                number: 0,
+                id: u32::from(accepted.id),
+                messages: accepted.messages,
+                server: accepted.server,
+            },
+            Err(refusal) => Served {
+                number: refusal.number(),
+                id: 0,
+                messages: 0,
+                server,
+            },
+        }
+    }
+}
+
+#[tactic(auto, unfolding(crate::specs::Serving::in_range, reader::specs::Sizes::most_vectors))]
 fn in_range(vectors: u64) -> bool
     ensures { result ≡ in_range vectors }
 {
@@ -52,48 +105,27 @@ fn in_range(vectors: u64) -> bool
 }
 
 // A server that nobody has joined.
-pub fn start(vectors: u64) -> Started
-    ensures { result ≡ started vectors }
+#[tactic(auto, unfolding(crate::specs::Serving::started))]
+pub fn start(vectors: u64) -> Result<Server, Refusal>
+    ensures { started_as result ≡ started vectors }
 {
     if in_range(vectors) {
-        return Started {
-            number: 0,
-            server: Server { joined: 0, vectors },
-        };
+        return Ok(Server { joined: 0, vectors });
     }
-    Started {
-        number: 1,
-        server: Server {
-            joined: 0,
-            vectors: 0,
-        },
-    }
+    Err(Refusal::VectorsOutOfRange)
 }
 
-// 10 for a number of vectors outside its range, then 11 for a buffer that is too small.
-fn refusal(server: Server, room: usize) -> u32
-    ensures { result ≡ refusal server room }
+// First a number of vectors outside its range is refused, then a buffer that is too small.
+fn check(server: Server, room: usize) -> Result<(), Refusal>
+    ensures { MatchResult result (λ _. refusal server room ≡ 0) (λ r. refusal server room ≡ refusal_number r) }
 {
-    let good = in_range(server.vectors);
-    if !good {
-        return 10;
+    if !in_range(server.vectors) {
+        return Err(Refusal::StateUnsound);
     }
     if room < BUFFER_BYTES {
-        return 11;
+        return Err(Refusal::BufferTooSmall);
     }
-    0
-}
-
-// Nothing is written.
-fn refused(number: u32, server: Server) -> Served
-    ensures { result ≡ answer_of (refused_by number server) }
-{
-    Served {
-        number,
-        id: 0,
-        messages: 0,
-        server,
-    }
+    Ok(())
 }
 
 // The version, the joiner's own id, and the memory.
@@ -103,21 +135,15 @@ fn put_start(out: &mut [u8], id: u8)
 {
     let version = Message {
         client: id,
-        kind: 0,
-        low: 0,
-        high: 0,
+        said: Said::Version,
     };
     let own = Message {
         client: id,
-        kind: 0,
-        low: id,
-        high: 0,
+        said: Said::Id(id),
     };
     let memory = Message {
         client: id,
-        kind: 1,
-        low: 255,
-        high: 255,
+        said: Said::Memory,
     };
     messages::put(out, 0, version);
     messages::put(out, 1, own);
@@ -125,28 +151,16 @@ fn put_start(out: &mut [u8], id: u8)
 }
 
 // All messages of a join, and their number.
-fn put_join(out: &mut [u8], joined: u64, id: u8, vectors: usize) -> usize
-    requires { length (join_bytes joined id vectors) ≤ length out.old }
-    ensures { (out.new ≡ sets out.old 0 (join_bytes joined id vectors)) × (10 * result ≡ length (join_bytes joined id vectors)) }
+fn put_join(out: &mut [u8], joined: Clients, id: u8, vectors: usize) -> usize
+    requires { length (join_bytes joined.0 id vectors) ≤ length out.old }
+    ensures { (out.new ≡ sets out.old 0 (join_bytes joined.0 id vectors)) × (10 * result ≡ length (join_bytes joined.0 id vectors)) }
 {
-    let known = Notice {
-        kind: 1,
-        id,
-        times: vectors,
-        single: true,
-    };
+    let known = Notice::ToJoiner(id, vectors);
     let own = Message {
         client: id,
-        kind: 1,
-        low: id,
-        high: 0,
+        said: Said::Vector(id),
     };
-    let joiner = Notice {
-        kind: 1,
-        id,
-        times: vectors,
-        single: false,
-    };
+    let joiner = Notice::OfJoiner(id, vectors);
     put_start(out, id);
     let second = notices::put_notices(out, 3, joined, known);
     messages::put_times(out, second, own, vectors);
@@ -154,74 +168,59 @@ fn put_join(out: &mut [u8], joined: u64, id: u8, vectors: usize) -> usize
 }
 
 // A join with an id that is free.
-fn join_as(server: Server, id: u64, out: &mut [u8]) -> Served
+fn join_as(server: Server, id: u8, out: &mut [u8]) -> Accepted
     requires { (in_range server.vectors ≡ true) × (id < ids) × (is_joined server.joined id ≡ false) × (buffer_bytes ≤ length out.old) }
-    ensures { Serves (join_as server id) out.old out.new result }
+    ensures { Serves (join_as server id) out.old out.new (served_as server (Ok result)) }
 {
-    let messages = put_join(out, server.joined, id as u8, server.vectors as usize);
-    let next = Server {
-        joined: clients::with(server.joined, id),
-        vectors: server.vectors,
-    };
-    Served {
-        number: 0,
-        id: id as u32,
+    let joined = Clients(server.joined);
+    let messages = put_join(out, joined, id, server.vectors as usize);
+    Accepted {
+        id,
         messages,
-        server: next,
+        server: Server {
+            joined: joined.with(id).0,
+            ..server
+        },
     }
 }
 
 // The leave of an id that is joined.
-fn leave_as(server: Server, id: u64, out: &mut [u8]) -> Served
+fn leave_as(server: Server, id: u8, out: &mut [u8]) -> Accepted
     requires { (is_joined server.joined id ≡ true) × (buffer_bytes ≤ length out.old) }
-    ensures { Serves (leave_as server id) out.old out.new result }
+    ensures { Serves (leave_as server id) out.old out.new (served_as server (Ok result)) }
 {
-    let joined = clients::without(server.joined, id);
-    let left = Notice {
-        kind: 0,
-        id: id as u8,
-        times: 1,
-        single: false,
-    };
-    let told = notices::put_notices(out, 0, joined, left);
-    let next = Server {
-        joined,
-        vectors: server.vectors,
-    };
-    Served {
-        number: 0,
-        id: id as u32,
+    let staying = Clients(server.joined).without(id);
+    let left = Notice::OfLeaver(id);
+    let told = notices::put_notices(out, 0, staying, left);
+    Accepted {
+        id,
         messages: told,
-        server: next,
+        server: Server {
+            joined: staying.0,
+            ..server
+        },
     }
 }
 
 // A client joins with the lowest free id, and is told what it has to know first; then the others are told of it. A refused call
 // changes nothing.
-pub fn join(server: Server, out: &mut [u8]) -> Served
-    ensures { Serves (join server (length out.old)) out.old out.new result }
+pub fn join(server: Server, out: &mut [u8]) -> Result<Accepted, Refusal>
+    ensures { Serves (join server (length out.old)) out.old out.new (served_as server result) }
 {
-    let number = refusal(server, out.len());
-    if number != 0 {
-        return refused(number, server);
-    }
-    let id = clients::lowest_free(server.joined);
-    if id < clients::IDS {
-        return join_as(server, id, out);
-    }
-    refused(12, server)
+    check(server, out.len())?;
+    let id = Clients(server.joined)
+        .lowest_free()
+        .ok_or(Refusal::NoneFree)?;
+    Ok(join_as(server, id, out))
 }
 
 // A client leaves, and those that stay are told. A refused call changes nothing.
-pub fn leave(server: Server, id: u64, out: &mut [u8]) -> Served
-    ensures { Serves (leave server id (length out.old)) out.old out.new result }
+pub fn leave(server: Server, id: u64, out: &mut [u8]) -> Result<Accepted, Refusal>
+    ensures { Serves (leave server id (length out.old)) out.old out.new (served_as server result) }
 {
-    let number = refusal(server, out.len());
-    if number != 0 {
-        return refused(number, server);
+    check(server, out.len())?;
+    if !Clients(server.joined).contains(id) {
+        return Err(Refusal::NotJoined);
     }
-    if clients::is_joined(server.joined, id) {
-        return leave_as(server, id, out);
-    }
-    refused(4, server)
+    Ok(leave_as(server, id as u8, out))
 }

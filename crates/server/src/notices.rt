@@ -3,65 +3,79 @@ ghost use Rattle.std.specs.Prelude.{◌≡◌, ◌+◌, ◌*◌, ◌≤◌, ◌<
 ghost use Rattle.std.proofs.lemmas.List.Edits.{sets};
 ghost use Rattle.reader.specs.Sizes.{ids};
 ghost use Rattle.server.specs.Clients.{joined_at, clients};
-ghost use Rattle.server.specs.Parts.{notice_to, notices_bytes};
+ghost use Rattle.server.specs.Parts.{notice_times, notice_to, notices_bytes};
 
-use super::messages::Message;
-use super::{clients, messages};
+use super::clients::Clients;
+use super::messages;
+use super::messages::{Message, Said};
 
-// What is said of an id and each client: the same message, `times` times.
+// What is said of one client and each of the others.
 #[derive(Clone, Copy)]
-pub struct Notice {
-    pub kind: u8,
-    pub id: u8,
-    pub times: usize,
-    // all of them go to the id, and each names a client; else each goes to a client, and names the id
-    pub single: bool,
+pub enum Notice {
+    // the joiner is told each other client's vectors
+    ToJoiner(u8, usize),
+    // each other client is told the joiner's vectors
+    OfJoiner(u8, usize),
+    // each other client is told that this one has left
+    OfLeaver(u8),
 }
 
-fn notice_to(notice: Notice, client: u8) -> Message
-    ensures { result ≡ notice_to notice client }
-{
-    if notice.single {
-        return Message {
-            client: notice.id,
-            kind: notice.kind,
-            low: client,
-            high: 0,
-        };
+impl Notice {
+    // How many times each message comes: once for each vector.
+    #[tactic(auto, unfolding(crate::specs::Parts::notice_times))]
+    fn times(self) -> usize
+        ensures { result ≡ notice_times self }
+    {
+        match self {
+            Notice::ToJoiner(_, vectors) | Notice::OfJoiner(_, vectors) => vectors,
+            Notice::OfLeaver(_) => 1,
+        }
     }
-    Message {
-        client,
-        kind: notice.kind,
-        low: notice.id,
-        high: 0,
+
+    #[tactic(auto, unfolding(crate::specs::Parts::notice_to))]
+    fn message(self, other: u8) -> Message
+        ensures { result ≡ notice_to self other }
+    {
+        match self {
+            Notice::ToJoiner(joiner, _) => Message {
+                client: joiner,
+                said: Said::Vector(other),
+            },
+            Notice::OfJoiner(joiner, _) => Message {
+                client: other,
+                said: Said::Vector(joiner),
+            },
+            Notice::OfLeaver(leaver) => Message {
+                client: other,
+                said: Said::Gone(leaver),
+            },
+        }
     }
 }
 
 // The messages for one client, if it is joined, from place n on, and the place behind them.
-fn put_notice(out: &mut [u8], n: usize, joined: u64, notice: Notice, client: u64) -> usize
-    requires { (client < ids) × (10 * n + length (notices_bytes notice (joined_at joined client)) ≤ length out.old) }
-    ensures { (out.new ≡ sets out.old (10 * n) (notices_bytes notice (joined_at joined client)))
-        × (10 * result ≡ 10 * n + length (notices_bytes notice (joined_at joined client))) }
+fn put_notice(out: &mut [u8], n: usize, joined: Clients, notice: Notice, client: u64) -> usize
+    requires { (client < ids) × (10 * n + length (notices_bytes notice (joined_at joined.0 client)) ≤ length out.old) }
+    ensures { (out.new ≡ sets out.old (10 * n) (notices_bytes notice (joined_at joined.0 client)))
+        × (10 * result ≡ 10 * n + length (notices_bytes notice (joined_at joined.0 client))) }
 {
-    if clients::is_joined(joined, client) {
-        let message = notice_to(notice, client as u8);
-        messages::put_times(out, n, message, notice.times);
-        return n + notice.times;
+    if joined.contains(client) {
+        let times = notice.times();
+        messages::put_times(out, n, notice.message(client as u8), times);
+        return n + times;
     }
     n
 }
 
 // The messages for each client, up to the last one that is joined.
-pub fn put_notices(out: &mut [u8], n: usize, joined: u64, notice: Notice) -> usize
-    requires { 10 * n + length (notices_bytes notice (clients joined)) ≤ length out.old }
-    ensures { (out.new ≡ sets out.old (10 * n) (notices_bytes notice (clients joined)))
-        × (10 * result ≡ 10 * n + length (notices_bytes notice (clients joined))) }
+pub fn put_notices(out: &mut [u8], n: usize, joined: Clients, notice: Notice) -> usize
+    requires { 10 * n + length (notices_bytes notice (clients joined.0)) ≤ length out.old }
+    ensures { (out.new ≡ sets out.old (10 * n) (notices_bytes notice (clients joined.0)))
+        × (10 * result ≡ 10 * n + length (notices_bytes notice (clients joined.0))) }
 {
     let mut next = n;
-    let mut client = 0;
-    while clients::any_from(joined, client) {
+    for client in 0..joined.end() {
         next = put_notice(out, next, joined, notice, client);
-        client += 1;
     }
     next
 }

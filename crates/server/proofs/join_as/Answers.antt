@@ -1,6 +1,5 @@
 -- `server::join_as` meets its contract.
 use native.Mathlib.Omega.{arith}
-use Rattle.reader.proofs.SizeLaws.{ids_byte}
 use Rattle.server.proofs.MessageLaws.{join_bytes_lem}
 use Rattle.server.proofs.RoomLaws.{join_room}
 use Rattle.server.proofs.ServeLaws.{serves_done}
@@ -8,17 +7,11 @@ use Rattle.server.specs.Clients.{clients}
 use Rattle.server.specs.Messages.{join_messages}
 use Rattle.server.proofs.join_as.Goals as goal
 
-pub overflow_cast-id : goal.overflow_cast-id
-overflow_cast-id c = omega (arith, ids_byte)
-
 pub put_join-messages-requires : goal.put_join-messages-requires
 put_join-messages-requires c =
     let a = c.args in
     let p = c.requires in
     omega (arith, join_room a.server.joined a.id a.server.vectors p.1 p.2 p.0)
-
-pub overflow_cast-result : goal.overflow_cast-result
-overflow_cast-result c = omega (arith, ids_byte)
 
 pub returns : goal.returns
 returns c =
@@ -28,4 +21,4 @@ returns c =
     let room = join_room s.joined a.id s.vectors p.1 p.2 p.0 in
     rw c.with.ensures
     (serves_done a.id (join_messages s.vectors (clients s.joined) a.id) _ _ a.out.now _ _
-    (join_bytes_lem s.vectors s.joined a.id p.1) (omega (arith, room)) c.put_join-messages.ensures.0 c.put_join-messages.ensures.1)
+    (join_bytes_lem s.vectors s.joined a.id) (omega (arith, room)) c.put_join-messages.ensures.0 c.put_join-messages.ensures.1)

@@ -1,31 +1,24 @@
 -- `server::leave_as` meets its contract.
 use Prim.Native.Nat.{◌*◌}
-use mathlib.Core.Bool.{false}
 use mathlib.Core.Path.{◌≡◌}
 use native.Mathlib.Omega.{arith}
 use lib.ListN.{length}
-use Rattle.reader.proofs.SizeLaws.{ids_byte}
+use Rattle.server.specs.declared.notices.Notice.TheVariants.{OfLeaver}
 use Rattle.server.proofs.JoinedLaws.{joined_below_lem, without_same}
 use Rattle.server.proofs.MessageLaws.{leave_bytes}
 use Rattle.server.proofs.RoomLaws.{leave_room}
 use Rattle.server.proofs.ServeLaws.{serves_done}
 use Rattle.server.specs.Clients.{joined_without, clients}
 use Rattle.server.specs.Messages.{leave_messages}
-use Rattle.server.specs.Parts.{notice_of, notices_bytes}
+use Rattle.server.specs.Parts.{notices_bytes}
 use Rattle.server.proofs.leave_as.Goals as goal
-
-pub overflow_cast-left : goal.overflow_cast-left
-overflow_cast-left c = omega (arith, ids_byte, joined_below_lem _ _ c.requires.0)
 
 pub put_notices-told-requires : goal.put_notices-told-requires
 put_notices-told-requires c =
     let a = c.args in
     let e = c.requires.0 in
     let h = joined_below_lem a.server.joined a.id e in
-    rw c.without-joined.ensures (omega (arith, leave_room _ a.id h (without_same a.server.joined a.id e)))
-
-pub overflow_cast-result : goal.overflow_cast-result
-overflow_cast-result c = omega (arith, ids_byte, joined_below_lem _ _ c.requires.0)
+    rw c.without-staying.ensures (omega (arith, leave_room _ a.id h (without_same a.server.joined a.id e)))
 
 pub returns : goal.returns
 returns c =
@@ -34,9 +27,9 @@ returns c =
     let h = joined_below_lem a.server.joined a.id e in
     let now = joined_without a.server.joined a.id in
     let room = leave_room now a.id h (without_same a.server.joined a.id e) in
-    let w = c.without-joined.ensures in
-    let count : 10 * c.put_notices-told.result ≡ length (notices_bytes (notice_of 0 a.id 1 false) (clients now)) =
+    let w = c.without-staying.ensures in
+    let count : 10 * c.put_notices-told.result ≡ length (notices_bytes (OfLeaver a.id) (clients now)) =
     omega (arith, rw w at c.put_notices-told.ensures.1) in
     rw w
-    (serves_done a.id (leave_messages (clients now) a.id) _ _ a.out.now _ _ (leave_bytes now a.id h) (omega (arith, room))
+    (serves_done a.id (leave_messages (clients now) a.id) _ _ a.out.now _ _ (leave_bytes now a.id) (omega (arith, room))
     (rw w at c.put_notices-told.ensures.0) count)

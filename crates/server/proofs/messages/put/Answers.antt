@@ -1,48 +1,25 @@
 -- `server::messages::put` meets its contract.
-use Prim.Native.Nat.{suc, ◌+◌, ◌*◌}
-use mathlib.Core.Path.{◌≡◌}
+use Prim.Native.Nat.{ℕ, suc, ◌+◌, ◌-◌, ◌*◌}
+use mathlib.Core.Path.{◌≡◌, ap, ◌∙◌}
 use native.Mathlib.Omega.{arith}
 use lib.ListN.{length-set}
-use native.Mathlib.Omega.{arith}
+use Rattle.common.specs.Bytes.{bytes}
+use Rattle.common.proofs.ByteLaws.{length_bytes}
+use Rattle.common.proofs.StoredLaws.{part_back, eight_bytes}
+use Rattle.server.specs.Messages.{unsigned, sent_bytes, bytes_of}
+use Rattle.server.specs.Parts.{record_of_said}
 use Rattle.server.proofs.messages.put.Goals as goal
 
-pub bounds-out-at-2 : goal.bounds-out-at-2
-bounds-out-at-2 c = simp length-set (omega arith)
-
-pub bounds-out-at-3 : goal.bounds-out-at-3
-bounds-out-at-3 c = simp length-set (omega arith)
-
-pub bounds-out-at-4 : goal.bounds-out-at-4
-bounds-out-at-4 c = simp length-set (omega arith)
-
-pub bounds-out-at-5 : goal.bounds-out-at-5
-bounds-out-at-5 c = simp length-set (omega arith)
-
-pub bounds-out-at-6 : goal.bounds-out-at-6
-bounds-out-at-6 c = simp length-set (omega arith)
-
-pub bounds-out-at-7 : goal.bounds-out-at-7
-bounds-out-at-7 c = simp length-set (omega arith)
-
-pub bounds-out-at-8 : goal.bounds-out-at-8
-bounds-out-at-8 c = simp length-set (omega arith)
-
-pub bounds-out-at-9 : goal.bounds-out-at-9
-bounds-out-at-9 c = simp length-set (omega arith)
-
-pub bounds-out-at-10 : goal.bounds-out-at-10
-bounds-out-at-10 c = simp length-set (omega arith)
-
 pub returns : goal.returns
+unfolding sent_bytes bytes_of
 returns c =
     let at = 10 * c.args.n in
     let e1 : at + 1 ≡ suc at = omega arith in
     let e2 : at + 2 ≡ suc (suc at) = omega arith in
-    let e3 : at + 3 ≡ suc (suc (suc at)) = omega arith in
-    let e4 : at + 4 ≡ suc (suc (suc (suc at))) = omega arith in
-    let e5 : at + 5 ≡ suc (suc (suc (suc (suc at)))) = omega arith in
-    let e6 : at + 6 ≡ suc (suc (suc (suc (suc (suc at))))) = omega arith in
-    let e7 : at + 7 ≡ suc (suc (suc (suc (suc (suc (suc at)))))) = omega arith in
-    let e8 : at + 8 ≡ suc (suc (suc (suc (suc (suc (suc (suc at))))))) = omega arith in
-    let e9 : at + 9 ≡ suc (suc (suc (suc (suc (suc (suc (suc (suc at)))))))) = omega arith in
-    rw (e1, e2, e3, e4, e5, e6, e7, e8, e9)
+    let n : at + 10 - suc (suc at) ≡ 8 = omega arith in
+    let stored : c.copy_from_slice.new.self ≡ bytes 8 (unsigned (record_of_said c.args.m.said).value) =
+    c.copy_from_slice.ensures.after
+    ∙ c.to_le_bytes.ensures
+    ∙ eight_bytes c.number-number.result
+    ∙ ap (λ (x : ℕ). bytes 8 x) c.number-number.ensures in
+    rw (stored, c.kind.ensures, e1, e2, n) (part_back _ _ (suc (suc at)) 8 (length_bytes 8 _) (simp length-set (omega arith)))

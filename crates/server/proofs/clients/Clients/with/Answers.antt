@@ -1,9 +1,9 @@
--- `server::clients::with` meets its contract.
+-- `server::clients::Clients::with` meets its contract.
 use Prim.Native.Nat.{◌+◌, ◌^◌, ◌<◌}
 use native.Mathlib.Omega.{arith}
 use Rattle.reader.specs.Sizes.{ids}
 use Rattle.server.proofs.JoinedLaws.{with_fits, one_shifted}
-use Rattle.server.proofs.clients.with.Goals as goal
+use Rattle.server.proofs.clients.Clients.with.Goals as goal
 
 pub overflow_shl-result : goal.overflow_shl-result
 unfolding ids
@@ -11,7 +11,7 @@ overflow_shl-result c = omega arith
 
 pub overflow_add-result : goal.overflow_add-result
 overflow_add-result c =
-    let joined = c.args.joined in
+    let joined = c.args.self.0 in
     let l : joined + 2 ^ c.args.id < 2 ^ 64 = with_fits joined c.args.id c.requires.0 c.requires.1 (omega arith) in
     rw (one_shifted _ c.requires.0) (omega arith)
 

@@ -1,7 +1,7 @@
--- `server::clients::without` meets its contract.
+-- `server::clients::Clients::without` meets its contract.
 use Rattle.reader.specs.Sizes.{ids}
 use Rattle.server.proofs.JoinedLaws.{joined_below_lem, joined_le, one_shifted}
-use Rattle.server.proofs.clients.without.Goals as goal
+use Rattle.server.proofs.clients.Clients.without.Goals as goal
 
 pub overflow_shl-result : goal.overflow_shl-result
 unfolding ids
