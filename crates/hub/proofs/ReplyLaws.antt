@@ -69,3 +69,6 @@ changes_accepted before after c n value hub =
       hub = λ region. hub region ∙ sym (ap (λ (o : Outcome). o.world.hub) (accepted_effect _ c (n region)));
       kept = λ p. absurd (p refl);
     }
+
+-- what a refused and an accepted call answers
+pub ruleset replies = (number_some, step_refused, reply_refused, reply_accepted, question_refused, question_accepted, answers_refused, answers_accepted, changes_refused, changes_accepted)

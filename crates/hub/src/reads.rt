@@ -1,4 +1,6 @@
 // The calls that only read.
+#![tactic(auto, unfolding(device::specs::Effect::effect, device::specs::Refusal::lent_to, device::specs::Refusal::access_of), using(crate::proofs::RefusalLaws::checks_of, crate::proofs::ReadLaws::region_read_checked, crate::proofs::ReplyLaws::replies))]
+
 ghost use Rattle.device.specs.Call.{call};
 ghost use Rattle.device.specs.Call;
 ghost use Rattle.hub.specs.Answered.{section_reply, value_reply};

@@ -1,4 +1,6 @@
 // Loads and stores of shared bytes.
+#![tactic(auto, unfolding(device::specs::Effect::effect), using(crate::proofs::RefusalLaws::checks_of, crate::proofs::ReplyLaws::replies, device::proofs::StepLaws::accepted_effect))]
+
 ghost use Rattle.std.specs.Prelude.{length};
 ghost use Rattle.device.specs.Call.{call};
 ghost use Rattle.device.specs.Call;

@@ -8,13 +8,6 @@ use Rattle.hub.proofs.RefusalLaws.{connect_refusal, joining_slot}
 use Rattle.hub.proofs.ReplyLaws.{changes_refused, changes_accepted}
 use Rattle.hub.proofs.joining.connect.Goals as goal
 
-pub returns-in_err-joining_refusal : goal.returns-in_err-joining_refusal
-returns-in_err-joining_refusal c =
-    let a = c.args in
-    let p = err_from_is_err_and c.from_residual.result c.from_residual.ensures.1 in
-    rw (p.1, p.2)
-    (changes_refused a.hub.now _ _ (λ region. connect_refusal (hub_of a.hub.now) region a.id ∙ sym c.in_err-joining_refusal.ensures.is))
-
 pub returns : goal.returns
 unfolding effect run_all run
 returns c =

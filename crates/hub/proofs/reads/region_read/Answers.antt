@@ -13,13 +13,6 @@ use Rattle.hub.proofs.ReadLaws.{region_read_checked, unmapped_read}
 use Rattle.hub.proofs.ReplyLaws.{answers_refused, answers_accepted}
 use Rattle.hub.proofs.reads.region_read.Goals as goal
 
-pub returns-in_err-caller : goal.returns-in_err-caller
-returns-in_err-caller c =
-    let a = c.args in
-    let p = err_from_is_err_and c.from_residual.result c.from_residual.ensures.1 in
-    rw (p.1, p.2)
-    (answers_refused a.hub.now _ _ (region_read_checked a.hub.now a.id a.region a.access.offset a.access.size _ c.in_err-caller.ensures.is))
-
 pub returns-then-not-memory_on : goal.returns-then-not-memory_on
 returns-then-not-memory_on c =
     let a = c.args in

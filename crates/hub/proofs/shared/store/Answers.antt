@@ -13,25 +13,6 @@ use Rattle.hub.proofs.RefusalLaws.{number_some, store_refusal}
 use Rattle.hub.proofs.ReplyLaws.{step_refused, reply_refused, reply_accepted}
 use Rattle.hub.proofs.shared.store.Goals as goal
 
-pub returns-in_err-store_refusal : goal.returns-in_err-store_refusal
-returns-in_err-store_refusal c =
-    let a = c.args in
-    let some = number_some c.in_err-store_refusal.field-0.0 in
-    let n = store_refusal (hub_of a.hub.now) a.region.now a.id a.offset a.stored.now
-    ∙ sym (rw c.region.ensures at c.in_err-store_refusal.ensures.is) in
-    let p = err_from_is_err_and c.from_residual.result c.from_residual.ensures.1 in
-    rw (p.1, p.2)
-    (record {
-      reply = reply_refused _ _ _ n some;
-      region = sym (ap (λ (o : Outcome). o.world) (step_refused _ _ _ n some));
-    })
-
-pub store-requires : goal.store-requires
-store-requires c =
-    let t = (rw c.region.ensures at c.in_ok-store_refusal.ensures.caller).region in
-    let g = c.in_ok-store_refusal.ensures.inside.fits in
-    omega arith
-
 pub returns : goal.returns
 unfolding effect run_all run
 returns c =
