@@ -1,12 +1,12 @@
 -- The parts of the checks are together the table of refusals, and what an admitted call is known to satisfy.
 use Prim.Native.Nat.{ℕ, ◌<◌, ◌≤◌}
-use mathlib.Core.Bool.{Bool, true, false, not}
+use mathlib.Core.Bool.{Bool, true, false}
 use mathlib.Core.List.{List, ◌++◌}
 use mathlib.Core.Path.{◌≡◌, refl, sym, ap, ◌∙◌}
 use Rattle.std.specs.Prelude.{Option, Some, None, IfSome, Result, Ok, Err, OnOk}
 use Rattle.device.specs.declared.Settings.{Settings}
 use native.Mathlib.Omega.{arith}
-use lib.Dec.{eqb, leb}
+use lib.Dec.{eqb}
 use lib.ListN.{length}
 use borrow.Author.Tests.{eqb-true, eqb-false, leb-false, ltb-false, not-false}
 use Rattle.common.specs.Tests.{Row, first}
@@ -218,5 +218,5 @@ unfolding first wrong_region short_table missing present wrong_width misaligned 
 register_write_refusal h region id n at w x =
     by_kind h region id (Act.register_write n at w x) (Lent.region_and_table n) (Access.registers at w) refl refl
 
--- the number of each call, as the code checks it
-pub ruleset checks_of = (configuration_checked, region_checked, question_refusal, connect_refusal, load_refusal, store_refusal)
+-- for the checks of a call
+pub ruleset row_by_row = (sound_room, sound_numbers, allowed_width, size_some, stops, goes_on)

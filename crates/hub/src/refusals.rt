@@ -1,4 +1,6 @@
 // The checks of a call, in the order of the rules.
+#![tactic(auto, unfolding(common::specs::Tests::first), using(crate::proofs::RefusalLaws::row_by_row))]
+
 ghost use Rattle.std.specs.Prelude.{◌≡◌, true, ◌++◌, length, IfOk, OnOk};
 ghost use Rattle.common.specs.Tests.{first};
 ghost use Rattle.device.specs.Sections.{section_of};
@@ -95,7 +97,6 @@ impl Space {
     }
 
     // 6, 7 and 8.
-    #[tactic(auto, unfolding(common::specs::Tests::first), using(crate::proofs::RefusalLaws::allowed_width, crate::proofs::RefusalLaws::size_some))]
     fn check(self, access: Access) -> Result<(), Refusal>
         ensures { number_in result ≡ first (space_rows (size_of self) (allows self access.size) access.offset access.size) }
     {
@@ -113,7 +114,6 @@ impl Space {
 }
 
 // 10, 2, 11, 3 and 4: the hub, what is lent, and the id.
-#[tactic(auto, unfolding(common::specs::Tests::first), using(soundness::proofs::WholeLaws::sound_room, soundness::proofs::WholeLaws::sound_numbers))]
 pub fn admitted(hub: &[u32], lent: Lending, id: u64) -> Result<Caller, Refusal>
     ensures is { number_in result ≡ first (admission (hub_of hub.now) lent id) }
     ensures found { IfOk result (Found hub.now lent id) }
@@ -157,7 +157,6 @@ pub fn space_refusal(
 }
 
 // 6 and 8 for a range of the shared region, and the section that it lies in.
-#[tactic(auto, unfolding(common::specs::Tests::first))]
 fn range(s: Settings, range: Access) -> Result<SectionKind, Refusal>
     requires { accepted s ≡ true }
     ensures is { number_in result ≡ first (range_rows s range.offset range.size) }
@@ -191,7 +190,6 @@ pub fn range_refusal(
 }
 
 // The same with 9, for a range that is to be stored to.
-#[tactic(auto, unfolding(common::specs::Tests::first), using(crate::proofs::RefusalLaws::stops, crate::proofs::RefusalLaws::goes_on))]
 pub fn store_refusal(hub: &[u32], lent: Lending, id: u64, within: Access) -> Result<(), Refusal>
     ensures is { number_in result ≡ first ((admission (hub_of hub.now) lent id ++ range_rows
         (hub_of hub.now).settings within.offset within.size)

@@ -1,5 +1,5 @@
 // Loads and stores of shared bytes.
-#![tactic(auto, unfolding(device::specs::Effect::effect), using(crate::proofs::RefusalLaws::checks_of, crate::proofs::ReplyLaws::replies, device::proofs::StepLaws::accepted_effect))]
+#![tactic(auto, unfolding(device::specs::Effect::effect, device::specs::Step::run_all, device::specs::Step::run), using(crate::proofs::ReplyLaws::calls))]
 
 ghost use Rattle.std.specs.Prelude.{length};
 ghost use Rattle.device.specs.Call.{call};

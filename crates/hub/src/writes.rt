@@ -1,5 +1,5 @@
 // Writes of configuration space and of the MSI-X region.
-#![tactic(auto, unfolding(device::specs::Effect::effect, device::specs::Refusal::lent_to, device::specs::Refusal::access_of), using(crate::proofs::RefusalLaws::checks_of, crate::proofs::ReplyLaws::replies))]
+#![tactic(auto, unfolding(device::specs::Effect::effect, device::specs::Step::run_all, device::specs::Step::run, device::specs::Refusal::lent_to, device::specs::Refusal::access_of), using(crate::proofs::ReplyLaws::calls))]
 
 ghost use Rattle.device.specs.Call.{call};
 ghost use Rattle.device.specs.Call;

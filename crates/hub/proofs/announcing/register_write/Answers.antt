@@ -1,10 +1,9 @@
 -- `hub::announcing::register_write` meets its contract: a refusal is the table's, and an accepted write is its effect.
 use mathlib.Core.Path.{refl, sym, ◌∙◌}
-use Rattle.std.proofs.lemmas.Result.{err_from_is_err_and}
 use Rattle.device.specs.Effect.{effect}
 use Rattle.words.specs.Layout.{hub_of}
 use Rattle.hub.proofs.RefusalLaws.{register_write_refusal}
-use Rattle.hub.proofs.RunLaws.{ready, runs_nothing, serves_refused, serves_accepted}
+use Rattle.hub.proofs.RunLaws.{ready, runs_nothing, serves_accepted}
 use Rattle.hub.proofs.announcing.register_write.Goals as goal
 
 pub returns-then-not-memory_on : goal.returns-then-not-memory_on

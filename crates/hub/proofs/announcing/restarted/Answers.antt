@@ -1,10 +1,9 @@
 -- `hub::announcing::restarted` meets its contract: the slot, the State Table entry and the rings are together the call's effect.
 use mathlib.Core.Path.{◌≡◌, sym, ap, ◌∙◌}
-use Rattle.std.proofs.lemmas.Result.{err_from_is_err_and}
 use Rattle.device.specs.Effect.{Effect, announces, changes}
 use Rattle.device.specs.World.{reset_slot, slot_at}
 use Rattle.words.specs.Layout.{hub_of}
-use Rattle.hub.proofs.RunLaws.{ready, ready_kept, runs_own_then, restarted_effect, restarted_refusal, serves_refused, serves_accepted}
+use Rattle.hub.proofs.RunLaws.{ready, ready_kept, runs_own_then, restarted_effect, restarted_refusal, serves_accepted}
 use Rattle.hub.proofs.announcing.restarted.Goals as goal
 
 pub announce-requires : goal.announce-requires

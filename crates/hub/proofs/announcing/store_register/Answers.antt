@@ -8,7 +8,7 @@ use Rattle.device.specs.Ring.{with_interrupt}
 use Rattle.device.specs.World.{slot_at, with_peer}
 use Rattle.device.specs.declared.Peer.{Peer}
 use Rattle.words.specs.Layout.{hub_of}
-use Rattle.hub.proofs.RunLaws.{ready_kept, runs_nothing, runs_own, runs_ring, runs_own_then, nothing_stored}
+use Rattle.hub.proofs.RunLaws.{runs_nothing, runs_own, runs_ring, runs_own_then, nothing_stored}
 use Rattle.hub.proofs.announcing.store_register.Goals as goal
 
 pub returns-in-8 : goal.returns-in-8

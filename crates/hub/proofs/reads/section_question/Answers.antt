@@ -1,10 +1,9 @@
 -- `hub::reads::section_question` meets its contract: a refusal is the table's, and an accepted question is its effect.
 use mathlib.Core.Path.{sym, ◌∙◌}
-use Rattle.std.proofs.lemmas.Result.{err_from_is_err_and}
 use Rattle.device.specs.Effect.{effect}
 use Rattle.words.specs.Layout.{hub_of}
-use Rattle.hub.proofs.RefusalLaws.{number_some, question_refusal}
-use Rattle.hub.proofs.ReplyLaws.{question_refused, question_accepted}
+use Rattle.hub.proofs.RefusalLaws.{question_refusal}
+use Rattle.hub.proofs.ReplyLaws.{question_accepted}
 use Rattle.hub.proofs.reads.section_question.Goals as goal
 
 pub returns : goal.returns

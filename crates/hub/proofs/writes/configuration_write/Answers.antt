@@ -1,13 +1,11 @@
 -- `hub::writes::configuration_write` meets its contract: a refusal is the table's, and an accepted write is its effect.
 use mathlib.Core.Path.{refl}
-use Rattle.std.proofs.lemmas.Result.{err_from_is_err_and}
 use Rattle.device.specs.Call.{Act}
 use Rattle.device.specs.Effect.{effect}
 use Rattle.device.specs.Refusal.{lent_to, access_of}
 use Rattle.device.specs.Step.{run, run_all}
-use Rattle.device.proofs.ConfigurationLaws.{in_one_word}
 use Rattle.hub.proofs.RefusalLaws.{configuration_checked}
-use Rattle.hub.proofs.ReplyLaws.{changes_refused, changes_accepted}
+use Rattle.hub.proofs.ReplyLaws.{changes_accepted}
 use Rattle.hub.proofs.writes.configuration_write.Goals as goal
 
 pub returns : goal.returns

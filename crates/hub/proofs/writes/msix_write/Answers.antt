@@ -3,7 +3,6 @@ use Prim.Native.Nat.{◌/◌, ◌<◌}
 use mathlib.Core.Path.{refl}
 use native.Mathlib.Omega.{arith}
 use borrow.Author.Tests.{ltb-true}
-use Rattle.std.proofs.lemmas.Result.{err_from_is_err_and}
 use Rattle.device.specs.Call.{Act}
 use Rattle.device.specs.Effect.{effect}
 use Rattle.device.specs.Msix.{msix_written, in_table}
@@ -12,7 +11,7 @@ use Rattle.device.specs.Step.{run, run_all}
 use Rattle.words.proofs.SlotLaws.{slot_kept}
 use Rattle.words.specs.Layout.{hub_of}
 use Rattle.hub.proofs.RefusalLaws.{region_checked}
-use Rattle.hub.proofs.ReplyLaws.{changes_refused, changes_accepted}
+use Rattle.hub.proofs.ReplyLaws.{changes_accepted}
 use Rattle.hub.proofs.writes.msix_write.Goals as goal
 
 pub returns-then-not-memory_on : goal.returns-then-not-memory_on
