@@ -11,7 +11,7 @@ use Rattle.device.specs.Sound.{sound}
 use Rattle.device.specs.World.{Hub, slot_at}
 use Rattle.hub.specs.Admission.{joining_rows}
 use Rattle.hub.specs.Queries.{connected_answer, by_connect, ConnectedByConnect}
-use Rattle.hub.proofs.RefusalLaws.{connect_refusal}
+use Rattle.hub.proofs.RefusalLaws.{connect_refusal, five_connected}
 use Rattle.hub.proofs.ReplyLaws.{refused_by}
 
 abbrev yes : Reply
@@ -47,3 +47,5 @@ connected_by_connect hub region who = rw (connect_refusal hub region who) (by (e
     by : (t : Bool) → eqb (first (joining_rows hub who)) 5 ≡ t → connected_answer hub who ≡ by_connect (first (joining_rows hub who))
     by true e = rw e (sym ((parts hub who).0 (eqb-true _ _ e)))
     by false e = rw e (sym ((parts hub who).1 (eqb-false _ _ e)))
+
+pub ruleset queries = (connected_yes, connected_no, five_connected)

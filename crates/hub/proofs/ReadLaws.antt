@@ -18,6 +18,7 @@ use Rattle.hub.specs.declared.reads.Region.TheVariants.{Registers, Msix}
 use Rattle.hub.specs.Admission.{nothing_lent, admission, space_rows}
 use Rattle.hub.specs.Reads.{region_read}
 use Rattle.hub.proofs.RefusalLaws.{Checked, region_checked}
+use Rattle.hub.proofs.ReplyLaws.{calls}
 
 pub region_read_checked : (ws : List ℕ) (id : ℕ) (region : Region) (at w n : ℕ) →
     n ≡ first (admission (hub_of ws) nothing_lent id ++ space_rows 4096 (eqb w 4) at w) →
@@ -32,3 +33,6 @@ pub unmapped_read : (w : World) (id : ℕ) (region : Region) (at width : ℕ) �
 unfolding effect msix_read register_read
 unmapped_read w id Msix at width off = rw off
 unmapped_read w id Registers at width off = rw off
+
+-- for the reads of either region
+pub ruleset region_reads = (region_read_checked, unmapped_read, calls)

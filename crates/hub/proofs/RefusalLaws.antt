@@ -1,12 +1,12 @@
 -- The parts of the checks are together the table of refusals, and what an admitted call is known to satisfy.
 use Prim.Native.Nat.{ℕ, ◌<◌, ◌≤◌}
-use mathlib.Core.Bool.{Bool, true, false, not}
+use mathlib.Core.Bool.{Bool, true, false}
 use mathlib.Core.List.{List, ◌++◌}
 use mathlib.Core.Path.{◌≡◌, refl, sym, ap, ◌∙◌}
 use Rattle.std.specs.Prelude.{Option, Some, None, IfSome, Result, Ok, Err, OnOk}
 use Rattle.device.specs.declared.Settings.{Settings}
 use native.Mathlib.Omega.{arith}
-use lib.Dec.{eqb, leb}
+use lib.Dec.{eqb}
 use lib.ListN.{length}
 use borrow.Author.Tests.{eqb-true, eqb-false, leb-false, ltb-false, not-false}
 use Rattle.common.specs.Tests.{Row, first}
@@ -74,12 +74,10 @@ five_connected ReadOnly z = absurd (omega arith)
 five_connected UnsoundHub z = absurd (omega arith)
 five_connected ShortTable z = absurd (omega arith)
 
-known_caller : (ws : List ℕ) (lent : Lending) (id : ℕ) → not (sound (hub_of ws)) ≡ false →
-    IfSome lent.region (λ n. n ≡ total (hub_of ws).settings) → leb (hub_of ws).settings.peers id ≡ false →
+pub known_caller : (ws : List ℕ) (lent : Lending) (id : ℕ) → sound (hub_of ws) ≡ true →
+    IfSome lent.region (λ n. n ≡ total (hub_of ws).settings) → id < (hub_of ws).settings.peers →
     Admitted ws lent id
-known_caller ws lent id n region l =
-    let s = not-false _ n in
-    let k : id < (hub_of ws).settings.peers = leb-false _ _ l in
+known_caller ws lent id s region k =
     record {
       room = sound_room ws s;
       numbers = sound_numbers (hub_of ws) s;
@@ -87,15 +85,9 @@ known_caller ws lent id n region l =
       region = region;
     }
 
-same_length : (o : Option ℕ) (n : ℕ) → other_length o n ≡ false → IfSome o (λ m. m ≡ n)
+pub same_length : (o : Option ℕ) (n : ℕ) → other_length o n ≡ false → IfSome o (λ m. m ≡ n)
 same_length None n e = tt
 same_length (Some m) n e = eqb-true _ _ (not-false _ e)
-
-pub admitted_facts : (ws : List ℕ) (lent : Lending) (id : ℕ) →
-    first (admission (hub_of ws) lent id) ≡ 0 → Admitted ws lent id
-admitted_facts ws lent id e =
-    let none = first_none (admission (hub_of ws) lent id) refl e in
-    known_caller ws lent id (none 0) (same_length lent.region _ (none 1)) (none 3)
 
 -- The table for each kind of access, over the call that makes it.
 by_kind : (h : Hub) (region : List ℕ) (id : ℕ) (act : Act) (lent : Lent) (access : Access) →
@@ -176,11 +168,6 @@ pub connect_refusal : (h : Hub) (region : List ℕ) (id : ℕ) →
 unfolding refusal first lent_to access_of wrong_region short_table missing present wrong_width misaligned outside forbidden is_connected
 connect_refusal h region id = refl
 
-pub joining_facts : (ws : List ℕ) (id : ℕ) → 0 ≡ first (joining_rows (hub_of ws) id) → Admitted ws nothing_lent id
-joining_facts ws id e =
-    let none = first_none (joining_rows (hub_of ws) id) refl (sym e) in
-    known_caller ws nothing_lent id (none 0) tt (none 1)
-
 -- a peer that may connect has its slot at reset values, so that its registers are all that changes
 pub joining_slot : (ws : List ℕ) (id : ℕ) → first (joining_rows (hub_of ws) id) ≡ 0
     → with_peer (slot_at (hub_of ws) id) (reset_peer 1) ≡ reset_slot (hub_of ws).settings.vectors 1
@@ -230,3 +217,6 @@ pub register_write_refusal : (h : Hub) (region : List ℕ) (id n at w x : ℕ) �
 unfolding first wrong_region short_table missing present wrong_width misaligned outside forbidden is_connected lent_to access_of
 register_write_refusal h region id n at w x =
     by_kind h region id (Act.register_write n at w x) (Lent.region_and_table n) (Access.registers at w) refl refl
+
+-- for the checks of a call
+pub ruleset row_by_row = (sound_room, sound_numbers, allowed_width, size_some, stops, goes_on)

@@ -14,7 +14,7 @@ use Rattle.words.specs.Layout.{hub_of}
 use Rattle.hub.specs.Promises.{Answers, Changes}
 use Rattle.hub.specs.declared.reasons.Refusal.{Refusal}
 use Rattle.hub.specs.Answered.{number_of}
-use Rattle.hub.proofs.RefusalLaws.{Checked, number_some}
+use Rattle.hub.proofs.RefusalLaws.{Checked, number_some, configuration_checked, region_checked, question_refusal, connect_refusal, load_refusal, store_refusal, joining_slot}
 
 abbrev pub refused_by : ℕ → Reply
 refused_by n = record { number = n; value = 0 }
@@ -69,3 +69,6 @@ changes_accepted before after c n value hub =
       hub = λ region. hub region ∙ sym (ap (λ (o : Outcome). o.world.hub) (accepted_effect _ c (n region)));
       kept = λ p. absurd (p refl);
     }
+
+-- for the calls themselves: what the checks answer, and what a refused and an accepted call answer
+pub ruleset calls = (joining_slot, accepted_effect, configuration_checked, region_checked, question_refusal, connect_refusal, load_refusal, store_refusal, number_some, step_refused, reply_refused, reply_accepted, question_refused, question_accepted, answers_refused, answers_accepted, changes_refused, changes_accepted)

@@ -10,7 +10,9 @@ use Rattle.device.specs.SetUp.{accepted, hub_after_set_up, region_after_set_up}
 use Rattle.device.specs.World.{zero_hub}
 use Rattle.device.proofs.SetUpLaws.{accepted_facts, table_small, common_small, output_small}
 use Rattle.device.proofs.SizeLaws.{max_peers_small, max_vectors_small}
+use Rattle.words.proofs.LayoutLaws.{zero_words}
 use Rattle.words.specs.Layout.{Storable}
+use Rattle.hub.proofs.RefusalLaws.{number_some}
 
 pub storable : (s : Settings) → accepted s ≡ true → Storable s
 storable s e =
@@ -33,3 +35,6 @@ hub_refused n s h = rw (ne_eqb n 0 h)
 
 pub region_refused : (n : ℕ) (region : List ℕ) → (n ≡ 0 → ⊥) → region_after_set_up n region ≡ region
 region_refused n region h = rw (ne_eqb n 0 h)
+
+-- for what a set-up leaves
+pub ruleset set_ups = (storable, hub_refused, region_refused, number_some, zero_words)

@@ -59,6 +59,7 @@ fn store_register(
     }
 }
 
+#[tactic(auto, using(crate::proofs::RefusalLaws::register_write_refusal, crate::proofs::RunLaws::serves_refused))]
 pub fn register_write(
     hub: &mut [u32],
     region: &mut [u8],
@@ -103,6 +104,7 @@ impl Restart {
 }
 
 // The peer's registers and entries take their reset values, its State Table entry 0; the others are rung if that is a change.
+#[tactic(auto, using(crate::proofs::RunLaws::restarted_refusal, crate::proofs::RunLaws::serves_refused))]
 fn restarted(
     hub: &mut [u32],
     region: &mut [u8],

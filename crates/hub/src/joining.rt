@@ -13,6 +13,7 @@ use super::Refusal;
 use device::{Peer, Settings};
 
 // 1, 10 and 2 for a set-up: the numbers, the words' length that they ask for, the region's length.
+#[tactic(auto, unfolding(common::specs::Tests::first, device::specs::SetUp::set_up_refusal))]
 fn set_up_refusal(words: usize, s: Settings, region: &[u8]) -> Result<(), Refusal>
     ensures is { number_in result ≡ set_up_refusal (eqb words (hub_words s.peers s.vectors)) s region.now }
     ensures facts { OnOk result (SetUpFacts words s) }
@@ -31,6 +32,7 @@ fn set_up_refusal(words: usize, s: Settings, region: &[u8]) -> Result<(), Refusa
 
 // Makes the words a hub with nobody connected, and the whole region zero. After a refusal all words are zero, and the region is as it
 // was. All numbers are 64 bits wide, so that any is answered.
+#[tactic(auto, using(crate::proofs::SetUpLaws::set_ups))]
 pub fn set_up(hub: &mut [u32], region: &mut [u8], s: Settings) -> Result<(), Refusal>
     ensures { SetsUp hub.old hub.new region.old region.new s (done_reply result) }
 {
@@ -44,6 +46,7 @@ pub fn set_up(hub: &mut [u32], region: &mut [u8], s: Settings) -> Result<(), Ref
 }
 
 // 10, 3 and 5.
+#[tactic(auto, unfolding(common::specs::Tests::first), using(crate::proofs::RefusalLaws::row_by_row))]
 pub fn joining_refusal(hub: &[u32], id: u64) -> Result<(), Refusal>
     ensures is { number_in result ≡ first (joining_rows (hub_of hub.now) id) }
     ensures facts { OnOk result (Admitted hub.now nothing_lent id) }
@@ -63,6 +66,7 @@ pub fn joining_refusal(hub: &[u32], id: u64) -> Result<(), Refusal>
 }
 
 // The peer's registers and entries take their reset values, which those of an absent peer have already; nobody is rung.
+#[tactic(auto, unfolding(device::specs::Effect::effect, device::specs::Step::run_all, device::specs::Step::run), using(crate::proofs::ReplyLaws::calls))]
 pub fn connect(hub: &mut [u32], id: u64) -> Result<(), Refusal>
     ensures { Changes hub.old hub.new (call id Call.Act.connect) (done_reply result) }
 {

@@ -14,6 +14,7 @@ pub fn is_sound(hub: &[u32]) -> bool
 }
 
 // The checks are those of a connect, which a connected peer is refused with 5.
+#[tactic(auto, using(crate::proofs::QueryLaws::queries))]
 pub fn is_connected(hub: &[u32], id: u64) -> Result<bool, Refusal>
     ensures { flag_reply result ≡ connected_answer (hub_of hub.now) id }
 {

@@ -1,4 +1,6 @@
 // The calls that only read.
+#![tactic(auto, unfolding(device::specs::Effect::effect, device::specs::Refusal::lent_to, device::specs::Refusal::access_of), using(crate::proofs::ReplyLaws::calls))]
+
 ghost use Rattle.device.specs.Call.{call};
 ghost use Rattle.device.specs.Call;
 ghost use Rattle.hub.specs.Answered.{section_reply, value_reply};
@@ -29,6 +31,7 @@ pub fn configuration_read(hub: &[u32], id: u64, offset: u64, width: u64) -> Resu
 }
 
 // A read of either region. With Command bit 1 off it is all ones.
+#[tactic(auto, unfolding(device::specs::Effect::effect, device::specs::Msix::msix_read, device::specs::Msix::table_word, device::specs::Msix::in_table), using(crate::proofs::ReadLaws::region_reads))]
 fn region_read(hub: &[u32], id: u64, region: Region, access: Access) -> Result<u32, Refusal>
     ensures { Answers hub.now (call id (region_read region access.offset access.size)) (value_reply result) }
 {

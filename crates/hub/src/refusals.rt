@@ -1,4 +1,6 @@
 // The checks of a call, in the order of the rules.
+#![tactic(auto, unfolding(common::specs::Tests::first), using(crate::proofs::RefusalLaws::row_by_row))]
+
 ghost use Rattle.std.specs.Prelude.{◌≡◌, true, ◌++◌, length, IfOk, OnOk};
 ghost use Rattle.common.specs.Tests.{first};
 ghost use Rattle.device.specs.Sections.{section_of};

@@ -1,4 +1,6 @@
 // Loads and stores of shared bytes.
+#![tactic(auto, unfolding(device::specs::Effect::effect, device::specs::Step::run_all, device::specs::Step::run), using(crate::proofs::ReplyLaws::calls))]
+
 ghost use Rattle.std.specs.Prelude.{length};
 ghost use Rattle.device.specs.Call.{call};
 ghost use Rattle.device.specs.Call;

@@ -14,19 +14,23 @@ use Rattle.common.proofs.TestLaws.{first_none}
 use Rattle.device.specs.declared.Delivery.{Delivery}
 use Rattle.device.specs.declared.Reply.{Reply}
 use Rattle.common.specs.Tests.{row}
-use Rattle.device.specs.Call.{Act, Call, call}
+use Rattle.device.specs.Call.{Act, call}
 use Rattle.device.specs.Effect.{Operation, announces, changes, register_stored, effect, rung_peer, rung_vector}
 use Rattle.device.specs.Refusal.{Lent, lent_to, access_of, checks, short_table, refusal}
 use Rattle.device.specs.Registers.{Register, register_at, memory_on}
-use Rattle.device.specs.Step.{Outcome, run, run_all, effect_in, step}
+use Rattle.device.specs.Step.{run, run_all, effect_in, step}
 use Rattle.device.specs.World.{Hub, Slot, World, world, slot_at, with_slot, reset_slot}
 use Rattle.device.proofs.SetUpLaws.{accepted_facts}
-use Rattle.device.proofs.StepLaws.{accepted_effect, refused_changes_nothing, step_number}
+use Rattle.device.proofs.StepLaws.{accepted_effect, refused_changes_nothing}
 use Rattle.soundness.proofs.WholeLaws.{sound_numbers}
 use Rattle.gate.proofs.RingLaws.{ring_kept}
 use Rattle.deliveries.proofs.ListedLaws.{count_fits, others_kept}
 use Rattle.deliveries.specs.Listed.{listed, handed_out}
-use Rattle.hub.specs.declared.Served.{Served}
+use Rattle.deliveries.specs.declared.Deliveries.{Deliveries}
+use Rattle.hub.specs.Answered.{done_reply}
+use Rattle.hub.specs.declared.reasons.Refusal.{Refusal}
+use Rattle.ivshmem.specs.declared.Counted.{Counted}
+use Rattle.std.specs.Prelude.{Result, Ok, Err, IfOk, MatchResult}
 use Rattle.hub.specs.Promises.{Serves}
 use Rattle.words.specs.Layout.{hub_of}
 use Rattle.ivshmem.specs.Promises.{HandsOut}
@@ -109,33 +113,35 @@ unfolding lent_to effect
 disconnect_room = roomy Act.disconnect (λ n. refl) (λ h region id n some. few_announced id (world h region) some (slot_at h id)
     (reset_slot h.settings.vectors 0))
 
--- a refused step delivers nothing
-refused_nothing : (w : World) (c : Call) → ((step w c).number ≡ 0 → ⊥) → (step w c).deliveries ≡ []
-refused_nothing w c h = ap (λ (o : Outcome). o.deliveries) (refused_changes_nothing w c (λ z. h (step_number w c ∙ z)))
+-- what `hand_out` asks of the call's list, for a table of n records
+pub can_hand_out : (hub after region region_after : List ℕ) (id n : ℕ) (act : ℕ → Act) (served : Result Deliveries Refusal) → Roomy act
+    → Serves hub after region region_after (call id (act n)) served
+    → IfOk served (λ list. (list.count ≤ length list.targets) × (list.count ≤ n))
+can_hand_out hub after region region_after id n act (Ok list) roomy s =
+    (count_fits (hub_of after) list _ s.list, rw s.list.count (roomy (hub_of hub) region id n))
+can_hand_out hub after region region_after id n act (Err e) roomy s = tt
 
-module _ (hub after region region_after : List ℕ) (id : ℕ) (act : ℕ → Act) (r : Served) where
-  -- what `hand_out` asks of the call's list, for a table of n records
-  pub can_hand_out : (n : ℕ) → Roomy act → Serves hub after region region_after (call id (act n)) r
-      → (r.list.count ≤ length r.list.targets) × (r.list.count ≤ n)
-  can_hand_out n roomy s = (count_fits (hub_of after) r.list _ s.list, rw s.list.count (roomy (hub_of hub) region id n))
-
-  pub hands_out : (table table_after : List Delivery) (count : ℕ) → Serves hub after region region_after (call id (act (length table))) r
-      → (table_after ≡ handed_out (listed (hub_of after) r.list) table) × (count ≡ r.list.count)
-      → HandsOut hub after region region_after table table_after id act (record { reply = r.reply; count = count })
-  unfolding handed_out
-  hands_out table table_after count s e =
-      let deliveries = s.list.deliveries in
-      record {
-        reply = s.reply;
-        left = s.left;
-        table = rw (← deliveries) e.0;
-        count = e.1 ∙ s.list.count;
-        kept = λ h. (
-          s.kept h,
-          e.0 ∙ rw (
-            deliveries,
-            refused_nothing (world (hub_of hub) region) (call id (act (length table)))
-                (λ z. h (ap (λ (a : Reply). a.number) s.reply ∙ z)),
-          ),
-        );
-      }
+pub hands_out : (hub after region region_after : List ℕ) (id : ℕ) (act : ℕ → Act) (table table_after : List Delivery)
+    (served : Result Deliveries Refusal) (r : Counted)
+    → Serves hub after region region_after (call id (act (length table))) served
+    → r.reply ≡ done_reply served
+    → MatchResult served (λ list. table_after ≡ handed_out (listed (hub_of after) list) table) (λ e. table_after ≡ table)
+    → MatchResult served (λ list. r.count ≡ list.count) (λ e. r.count ≡ 0)
+    → HandsOut hub after region region_after table table_after id act r
+unfolding handed_out
+hands_out hub after region region_after id act table table_after (Ok list) r s reply written count =
+    record {
+      reply = reply ∙ s.reply;
+      left = s.left;
+      table = rw (← s.list.deliveries) written;
+      count = count ∙ s.list.count;
+      kept = λ h. absurd (h (ap (λ (a : Reply). a.number) reply));
+    }
+hands_out hub after region region_after id act table table_after (Err e) r s reply written count =
+    record {
+      reply = reply ∙ s.reply;
+      left = s.left;
+      table = rw s.list written;
+      count = rw s.list count;
+      kept = λ h. (s.kept, written);
+    }

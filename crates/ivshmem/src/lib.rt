@@ -2,14 +2,20 @@
 // lent. The calls that may ring other peers are here; host.rt and guest.rt have the others.
 #![tactic(auto)]
 
-ghost use Rattle.std.specs.Prelude.{ℕ};
+ghost use Rattle.std.specs.Prelude.{ℕ, ◌≡◌, ◌≤◌, length, IfOk, MatchResult};
 ghost use Rattle.device.specs.Call.{Act};
+ghost use Rattle.words.specs.Layout.{hub_of};
+ghost use Rattle.deliveries.specs.Listed.{listed, handed_out};
+ghost use Rattle.hub.specs.Answered.{done_reply};
 ghost use Rattle.ivshmem.specs.Promises.{HandsOut};
 
+use deliveries::Deliveries;
 use device::{Delivery, Reply};
+use hub::Refusal;
 
 pub mod guest;
 pub mod host;
+mod replies;
 
 // The numbers that a hub is set up with, as a host hands them in.
 #[repr(C)]
@@ -44,8 +50,25 @@ pub struct SectionNumbers {
     pub store: u32,
 }
 
-#[unsafe(no_mangle)]
-pub extern "C" fn ivshmem_register_write(
+// The deliveries of a call written over the table from the front. A refusal has none.
+fn hand_out(hub: &[u32], table: &mut [Delivery], served: Result<Deliveries, Refusal>) -> Counted
+    requires { IfOk served (λ list. (list.count ≤ length list.targets) × (list.count ≤ length table.old)) }
+    ensures reply { result.reply ≡ done_reply served }
+    ensures table { MatchResult served (λ list. table.new ≡ handed_out (listed (hub_of hub.now) list) table.old)
+        (λ _. table.new ≡ table.old) }
+    ensures count { MatchResult served (λ list. result.count ≡ list.count) (λ _. result.count ≡ 0) }
+{
+    let count = match served {
+        Ok(list) => deliveries::hand_out(hub, table, list),
+        Err(_) => 0,
+    };
+    Counted {
+        reply: replies::done(served),
+        count,
+    }
+}
+
+pub fn ivshmem_register_write(
     hub: &mut [u32],
     region: &mut [u8],
     table: &mut [Delivery],
@@ -57,34 +80,19 @@ pub extern "C" fn ivshmem_register_write(
     ensures { HandsOut hub.old hub.new region.old region.new
         table.old table.new id (λ (n : ℕ). Act.register_write n offset width value) result }
 {
-    let out = hub::register_write(hub, region, table.len() as u64, id, offset, width, value);
-    let count = deliveries::hand_out(hub, table, out.list);
-    Counted {
-        reply: out.reply,
-        count,
-    }
+    let served = hub::register_write(hub, region, table.len() as u64, id, offset, width, value);
+    hand_out(hub, table, served)
 }
 
-#[unsafe(no_mangle)]
-pub extern "C" fn ivshmem_reset(
-    hub: &mut [u32],
-    region: &mut [u8],
-    table: &mut [Delivery],
-    id: u64,
-) -> Counted
+pub fn ivshmem_reset(hub: &mut [u32], region: &mut [u8], table: &mut [Delivery], id: u64) -> Counted
     ensures { HandsOut hub.old hub.new region.old region.new
         table.old table.new id Act.reset result }
 {
-    let out = hub::reset(hub, region, table.len() as u64, id);
-    let count = deliveries::hand_out(hub, table, out.list);
-    Counted {
-        reply: out.reply,
-        count,
-    }
+    let served = hub::reset(hub, region, table.len() as u64, id);
+    hand_out(hub, table, served)
 }
 
-#[unsafe(no_mangle)]
-pub extern "C" fn ivshmem_disconnect(
+pub fn ivshmem_disconnect(
     hub: &mut [u32],
     region: &mut [u8],
     table: &mut [Delivery],
@@ -93,10 +101,6 @@ pub extern "C" fn ivshmem_disconnect(
     ensures { HandsOut hub.old hub.new region.old region.new
         table.old table.new id Act.disconnect result }
 {
-    let out = hub::disconnect(hub, region, table.len() as u64, id);
-    let count = deliveries::hand_out(hub, table, out.list);
-    Counted {
-        reply: out.reply,
-        count,
-    }
+    let served = hub::disconnect(hub, region, table.len() as u64, id);
+    hand_out(hub, table, served)
 }

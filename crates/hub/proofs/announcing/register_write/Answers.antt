@@ -1,20 +1,10 @@
 -- `hub::announcing::register_write` meets its contract: a refusal is the table's, and an accepted write is its effect.
 use mathlib.Core.Path.{refl, sym, ◌∙◌}
-use Rattle.std.proofs.lemmas.Result.{err_from_is_err_and}
 use Rattle.device.specs.Effect.{effect}
 use Rattle.words.specs.Layout.{hub_of}
 use Rattle.hub.proofs.RefusalLaws.{register_write_refusal}
-use Rattle.hub.proofs.RunLaws.{ready, runs_nothing, serves_refused, serves_accepted}
+use Rattle.hub.proofs.RunLaws.{ready, runs_nothing, serves_accepted}
 use Rattle.hub.proofs.announcing.register_write.Goals as goal
-
-pub returns-in_err-caller : goal.returns-in_err-caller
-returns-in_err-caller c =
-    let a = c.args in
-    let p = err_from_is_err_and c.from_residual.result c.from_residual.ensures.1 in
-    rw (p.1, p.2)
-    (serves_refused a.hub.now a.region.now _ _
-    (register_write_refusal (hub_of a.hub.now) a.region.now a.id a.records a.offset a.width a.value
-    ∙ sym (rw c.both-lent.ensures at c.in_err-caller.ensures.is)))
 
 pub returns-then-not-memory_on : goal.returns-then-not-memory_on
 unfolding effect

@@ -8,14 +8,8 @@ use Rattle.device.specs.Ring.{with_interrupt}
 use Rattle.device.specs.World.{slot_at, with_peer}
 use Rattle.device.specs.declared.Peer.{Peer}
 use Rattle.words.specs.Layout.{hub_of}
-use Rattle.hub.proofs.RunLaws.{ready_kept, runs_nothing, runs_own, runs_ring, runs_own_then, nothing_stored}
+use Rattle.hub.proofs.RunLaws.{runs_nothing, runs_own, runs_ring, runs_own_then, nothing_stored}
 use Rattle.hub.proofs.announcing.store_register.Goals as goal
-
-pub announce-requires : goal.announce-requires
-announce-requires c =
-    let a = c.args in
-    let s = slot_at (hub_of a.hub.now) a.id in
-    ready_kept a.hub.now _ a.region.now a.id (with_peer s c.with_state-q.result) c.requires c.put_peer-in-16.ensures
 
 pub returns-in-8 : goal.returns-in-8
 unfolding register_stored register_at
