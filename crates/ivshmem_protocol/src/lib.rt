@@ -17,7 +17,8 @@ pub struct MessageNumbers {
     pub count: u32,
 }
 
-// The answer to a call: a refusal's number or 0, the message in numbers, the bytes taken of the input, and the progress.
+// The answer to a call: a refusal's number or 0, the message in numbers, the bytes taken of the input, and the progress. It crosses
+// to C (`ivshmem_protocol_read`), which has no Result.
 #[repr(C)]
 #[derive(Drop)]
 pub struct ReadNumbers {
@@ -76,11 +77,14 @@ pub fn ivshmem_protocol_read(
 {
     let (number, answer) = match reader::read(progress, counts, vectors, input) {
         Ok(answer) => (0, answer),
-        Err(refusal) => (refusal.number(), Answer {
-            message: Message::More,
-            taken: 0,
-            progress,
-        }),
+        Err(refusal) => (
+            refusal.number(),
+            Answer {
+                message: Message::More,
+                taken: 0,
+                progress,
+            },
+        ),
     };
     let said = MessageNumbers::from(answer.message);
     ReadNumbers {

@@ -3,15 +3,14 @@ use Prim.Native.Nat.{ℕ, zero, suc, ◌+◌, ◌-◌, ◌^◌, ◌≤◌, ◌<�
 use mathlib.Core.Bool.{Bool, true, false, ◌&&◌}
 use mathlib.Core.Path.{◌≡◌, refl, ap}
 use native.Mathlib.Omega.{arith}
-use lib.Dec.{T, eqb, ltb}
+use lib.Dec.{eqb, ltb}
 use lib.IntN.{ℤ, pos, negsuc, nat_abs, ◌-ℤ◌}
-use lib.Signed.{le_z, lt_z, non_neg}
-use mir.Syntax.{w8, w64}
-use mir.Val.{Fits, SFits, of_z, to_z}
+use lib.Signed.{le_z, lt_z}
+use mir.Syntax.{w64}
+use mir.Val.{SFits, of_z, to_z}
 use mir.ValLaws.{to_z_pos}
 use borrow.Author.Tests.{lt-ltb, le-ltb, le-leb, ne_eqb, eq-eqb, ltb-true, ltb-false, eqb-true}
 use Rattle.common.proofs.TestLaws.{alike}
-use Rattle.reader.proofs.SizeLaws.{ids_byte}
 use Rattle.reader.specs.Records.{signed}
 use Rattle.reader.specs.Sizes.{ids}
 use Rattle.reader.specs.Steps.{is_version, is_id, id_of, is_memory}
@@ -60,16 +59,12 @@ unfolding is_id
 id_order (pos n) = rw (le-leb 0 n (omega arith))
 id_order (negsuc n) = refl
 
--- an id is not negative, fits a byte, and is the number's magnitude
+-- an id is the number's magnitude
 pub record IdNumber (z : ℤ) : Type 0 where
-  pub whole : T (non_neg z)
-  pub byte : Fits w8 (nat_abs z)
   pub is : nat_abs z ≡ id_of z
   pub below : nat_abs z < ids
 
 pub id_number : (z : ℤ) → is_id z ≡ true → IdNumber z
 unfolding is_id id_of
-id_number (pos n) e =
-    let l : n < ids = ltb-true n ids e in
-    record { whole = tt; byte = record { fits = omega (arith, ids_byte) }; is = refl; below = l }
+id_number (pos n) e = record { is = refl; below = ltb-true n ids e }
 id_number (negsuc n) e = let z : ◌≡◌ {A = ℕ} 0 1 = cc in absurd (omega arith)

