@@ -9,27 +9,30 @@ use lib.Dec.{ltb}
 use lib.ListN.{length, get_or}
 use lib.Seq.{sets}
 use borrow.Author.Tests.{ltb-false, not-false}
+use Rattle.std.specs.Prelude.{Result, Ok, Err, IfOk}
 use Rattle.common.specs.Bytes.{bytes}
 use Rattle.common.proofs.TestLaws.{first_none}
 use Rattle.device.specs.declared.Delivery.{Delivery}
 use Rattle.device.specs.declared.Reply.{Reply}
 use Rattle.common.specs.Tests.{row}
-use Rattle.device.specs.Call.{Act, Call, call}
+use Rattle.device.specs.Call.{Act, call}
 use Rattle.device.specs.Effect.{Operation, announces, changes, register_stored, effect, rung_peer, rung_vector}
 use Rattle.device.specs.Refusal.{Lent, lent_to, access_of, checks, short_table, refusal}
 use Rattle.device.specs.Registers.{Register, register_at, memory_on}
-use Rattle.device.specs.Step.{Outcome, run, run_all, effect_in, step}
+use Rattle.device.specs.Step.{run, run_all, effect_in, step}
 use Rattle.device.specs.World.{Hub, Slot, World, world, slot_at, with_slot, reset_slot}
 use Rattle.device.proofs.SetUpLaws.{accepted_facts}
-use Rattle.device.proofs.StepLaws.{accepted_effect, refused_changes_nothing, step_number}
+use Rattle.device.proofs.StepLaws.{accepted_effect, refused_changes_nothing}
 use Rattle.soundness.proofs.WholeLaws.{sound_numbers}
 use Rattle.gate.proofs.RingLaws.{ring_kept}
 use Rattle.deliveries.proofs.ListedLaws.{count_fits, others_kept}
-use Rattle.deliveries.specs.Listed.{listed, handed_out}
-use Rattle.hub.specs.declared.Served.{Served}
+use Rattle.deliveries.specs.declared.Deliveries.{Deliveries}
+use Rattle.deliveries.specs.Listed.{handed_out}
+use Rattle.hub.specs.declared.reasons.Refusal.{Refusal}
 use Rattle.hub.specs.Promises.{Serves}
 use Rattle.words.specs.Layout.{hub_of}
-use Rattle.ivshmem.specs.Promises.{HandsOut}
+use Rattle.ivshmem.specs.declared.Counted.{Counted}
+use Rattle.ivshmem.specs.Promises.{HandedOut, HandsOut}
 
 -- at most one ring at each id, in each of the lists of operations that ring
 module _ (who : ℕ) (w : World) (some : 0 < w.hub.settings.peers) where
@@ -109,33 +112,33 @@ unfolding lent_to effect
 disconnect_room = roomy Act.disconnect (λ n. refl) (λ h region id n some. few_announced id (world h region) some (slot_at h id)
     (reset_slot h.settings.vectors 0))
 
--- a refused step delivers nothing
-refused_nothing : (w : World) (c : Call) → ((step w c).number ≡ 0 → ⊥) → (step w c).deliveries ≡ []
-refused_nothing w c h = ap (λ (o : Outcome). o.deliveries) (refused_changes_nothing w c (λ z. h (step_number w c ∙ z)))
+handed_none : (ds table table_after : List Delivery) → ds ≡ [] → table_after ≡ table → table_after ≡ handed_out ds table
+unfolding handed_out
+handed_none ds table table_after e t = rw e t
 
-module _ (hub after region region_after : List ℕ) (id : ℕ) (act : ℕ → Act) (r : Served) where
+module _ (hub after region region_after : List ℕ) (id : ℕ) (act : ℕ → Act) where
   -- what `hand_out` asks of the call's list, for a table of n records
-  pub can_hand_out : (n : ℕ) → Roomy act → Serves hub after region region_after (call id (act n)) r
-      → (r.list.count ≤ length r.list.targets) × (r.list.count ≤ n)
-  can_hand_out n roomy s = (count_fits (hub_of after) r.list _ s.list, rw s.list.count (roomy (hub_of hub) region id n))
+  pub can_hand_out : (r : Result Deliveries Refusal) (n : ℕ) → Roomy act → Serves hub after region region_after (call id (act n)) r
+      → IfOk r (λ list. (list.count ≤ length list.targets) × (list.count ≤ n))
+  can_hand_out (Ok list) n roomy s = (count_fits (hub_of after) list _ s.list, rw s.list.count (roomy (hub_of hub) region id n))
+  can_hand_out (Err e) n roomy s = tt
 
-  pub hands_out : (table table_after : List Delivery) (count : ℕ) → Serves hub after region region_after (call id (act (length table))) r
-      → (table_after ≡ handed_out (listed (hub_of after) r.list) table) × (count ≡ r.list.count)
-      → HandsOut hub after region region_after table table_after id act (record { reply = r.reply; count = count })
-  unfolding handed_out
-  hands_out table table_after count s e =
-      let deliveries = s.list.deliveries in
+  pub hands_out : (r : Result Deliveries Refusal) (table table_after : List Delivery) (x : Counted)
+      → Serves hub after region region_after (call id (act (length table))) r → HandedOut after r table table_after x
+      → HandsOut hub after region region_after table table_after id act x
+  hands_out (Ok list) table table_after x s h =
       record {
-        reply = s.reply;
+        reply = h.0 ∙ s.reply;
         left = s.left;
-        table = rw (← deliveries) e.0;
-        count = e.1 ∙ s.list.count;
-        kept = λ h. (
-          s.kept h,
-          e.0 ∙ rw (
-            deliveries,
-            refused_nothing (world (hub_of hub) region) (call id (act (length table)))
-                (λ z. h (ap (λ (a : Reply). a.number) s.reply ∙ z)),
-          ),
-        );
+        table = rw (← s.list.deliveries) h.1;
+        count = h.2 ∙ s.list.count;
+        kept = λ k. absurd (k (ap (λ (a : Reply). a.number) h.0));
+      }
+  hands_out (Err e) table table_after x s h =
+      record {
+        reply = h.0 ∙ s.reply;
+        left = s.left;
+        table = handed_none _ _ _ s.list h.1;
+        count = h.2 ∙ ap length (sym s.list);
+        kept = λ k. (s.kept, h.1);
       }

@@ -1,5 +1,5 @@
 -- What the exported calls promise, where it is not the promise of the call that they pass on.
-use Rattle.std.specs.Prelude.{ℕ, cond, List, ◌≡◌, length}
+use Rattle.std.specs.Prelude.{ℕ, cond, List, ◌≡◌, length, Result, Ok, Err}
 use Rattle.device.specs.declared.Delivery.{Delivery}
 use Rattle.device.specs.declared.SectionReply.{SectionReply}
 use Rattle.device.specs.declared.Settings.{Settings}
@@ -7,7 +7,10 @@ use Rattle.device.specs.Call.{Act, Call, call}
 use Rattle.device.specs.Sections.{kind_number, owner_number}
 use Rattle.device.specs.Step.{step, reply_of, section_reply_of}
 use Rattle.device.specs.World.{world}
-use Rattle.deliveries.specs.Listed.{handed_out}
+use Rattle.deliveries.specs.declared.Deliveries.{Deliveries}
+use Rattle.deliveries.specs.Listed.{listed, handed_out}
+use Rattle.hub.specs.declared.reasons.Refusal.{Refusal}
+use Rattle.hub.specs.Answered.{done_reply}
 use Rattle.ivshmem.specs.declared.Counted.{Counted}
 use Rattle.ivshmem.specs.declared.SectionNumbers.{SectionNumbers}
 use Rattle.ivshmem.specs.declared.SetUpNumbers.{SetUpNumbers}
@@ -28,6 +31,12 @@ pub record HandsOut (hub after region region_after : List ℕ) (records records_
   pub table : records_after ≡ handed_out (step (world (hub_of hub) region) (call id (act (length records)))).deliveries records
   pub count : r.count ≡ length (step (world (hub_of hub) region) (call id (act (length records)))).deliveries
   pub kept : (r.reply.number ≡ 0 → ⊥) → (after ≡ hub) × (records_after ≡ records)
+
+-- what a result hands out: its deliveries written over the table from the front, or nothing
+abbrev pub HandedOut : List ℕ → Result Deliveries Refusal → (records records_after : List Delivery) → Counted → Type 0
+HandedOut hub (Ok list) records records_after r =
+    (r.reply ≡ done_reply {A = Deliveries} (Ok list)) × (records_after ≡ handed_out (listed (hub_of hub) list) records) × (r.count ≡ list.count)
+HandedOut hub (Err e) records records_after r = (r.reply ≡ done_reply {A = Deliveries} (Err e)) × (records_after ≡ records) × (r.count ≡ 0)
 
 -- the section question's answer in numbers
 abbrev pub in_numbers : SectionReply → SectionNumbers

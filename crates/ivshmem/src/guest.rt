@@ -1,22 +1,22 @@
 // The calls by a guest, but for register writes, which may ring and are in lib.rt.
-ghost use Rattle.std.specs.Prelude.{◌≡◌, cond, length};
+ghost use Rattle.std.specs.Prelude.{◌≡◌, length};
 ghost use Rattle.device.specs.Call.{Act, call};
 ghost use Rattle.device.specs.Sections.{kind_number, owner_number};
+ghost use Rattle.hub.specs.Answered.{section_reply};
 ghost use Rattle.hub.specs.Promises.{Answers, Changes, Loads, Stores};
 ghost use Rattle.ivshmem.specs.Promises.{AnswersInNumbers, in_numbers};
 
-use super::SectionNumbers;
-use device::{Reply, SectionKind, SectionReply};
+use super::{SectionNumbers, replies};
+use device::{Reply, SectionAnswer, SectionKind};
+use hub::Refusal;
 
-#[unsafe(no_mangle)]
-pub extern "C" fn ivshmem_configuration_read(hub: &[u32], id: u64, offset: u64, width: u64) -> Reply
+pub fn ivshmem_configuration_read(hub: &[u32], id: u64, offset: u64, width: u64) -> Reply
     ensures { Answers hub.now (call id (Act.configuration_read offset width)) result }
 {
-    hub::configuration_read(hub, id, offset, width)
+    replies::reply(hub::configuration_read(hub, id, offset, width))
 }
 
-#[unsafe(no_mangle)]
-pub extern "C" fn ivshmem_configuration_write(
+pub fn ivshmem_configuration_write(
     hub: &mut [u32],
     id: u64,
     offset: u64,
@@ -25,113 +25,79 @@ pub extern "C" fn ivshmem_configuration_write(
 ) -> Reply
     ensures { Changes hub.old hub.new (call id (Act.configuration_write offset width value)) result }
 {
-    hub::configuration_write(hub, id, offset, width, value)
+    replies::reply(hub::configuration_write(hub, id, offset, width, value))
 }
 
-#[unsafe(no_mangle)]
-pub extern "C" fn ivshmem_register_read(hub: &[u32], id: u64, offset: u64, width: u64) -> Reply
+pub fn ivshmem_register_read(hub: &[u32], id: u64, offset: u64, width: u64) -> Reply
     ensures { Answers hub.now (call id (Act.register_read offset width)) result }
 {
-    hub::register_read(hub, id, offset, width)
+    replies::reply(hub::register_read(hub, id, offset, width))
 }
 
-#[unsafe(no_mangle)]
-pub extern "C" fn ivshmem_msix_read(hub: &[u32], id: u64, offset: u64, width: u64) -> Reply
+pub fn ivshmem_msix_read(hub: &[u32], id: u64, offset: u64, width: u64) -> Reply
     ensures { Answers hub.now (call id (Act.msix_read offset width)) result }
 {
-    hub::msix_read(hub, id, offset, width)
+    replies::reply(hub::msix_read(hub, id, offset, width))
 }
 
-#[unsafe(no_mangle)]
-pub extern "C" fn ivshmem_msix_write(
-    hub: &mut [u32],
-    id: u64,
-    offset: u64,
-    width: u64,
-    value: u32,
-) -> Reply
+pub fn ivshmem_msix_write(hub: &mut [u32], id: u64, offset: u64, width: u64, value: u32) -> Reply
     ensures { Changes hub.old hub.new (call id (Act.msix_write offset width value)) result }
 {
-    hub::msix_write(hub, id, offset, width, value)
+    replies::reply(hub::msix_write(hub, id, offset, width, value))
 }
 
-fn kind_number(kind: SectionKind) -> u32
-    ensures { result ≡ kind_number kind }
+// The C interface has the kind as a number, and the owner's id where there is one.
+#[tactic(auto, unfolding(device::specs::Sections::kind_number, device::specs::Sections::owner_number))]
+fn kind_and_owner(kind: SectionKind) -> (u32, u32)
+    ensures { (result.0 ≡ kind_number kind) × (result.1 ≡ owner_number kind) }
 {
     match kind {
-        SectionKind::Nothing => 0,
-        SectionKind::StateTable => 1,
-        SectionKind::ReadWrite => 2,
-        SectionKind::Output(_) => 3,
+        SectionKind::Nothing => (0, 0),
+        SectionKind::StateTable => (1, 0),
+        SectionKind::ReadWrite => (2, 0),
+        SectionKind::Output(owner) => (3, u32::from(owner.0)),
     }
 }
 
-fn owner_number(kind: SectionKind) -> u32
-    ensures { result ≡ owner_number kind }
+// A refused question names no section and says no.
+#[tactic(auto, unfolding(device::specs::Sections::kind_number, device::specs::Sections::owner_number))]
+fn numbered(answer: Result<SectionAnswer, Refusal>) -> SectionNumbers
+    ensures { result ≡ in_numbers (section_reply answer) }
 {
-    match kind {
-        SectionKind::Nothing => 0,
-        SectionKind::StateTable => 0,
-        SectionKind::ReadWrite => 0,
-        SectionKind::Output(owner) => owner.0 as u32,
+    match answer {
+        Ok(section) => {
+            let (kind, owner) = kind_and_owner(section.kind);
+            SectionNumbers {
+                reply: replies::DONE,
+                kind,
+                owner,
+                store: u32::from(section.store),
+            }
+        }
+        Err(refusal) => SectionNumbers {
+            reply: replies::refused(refusal),
+            kind: 0,
+            owner: 0,
+            store: 0,
+        },
     }
 }
 
-fn flag(yes: bool) -> u32
-    ensures { result ≡ cond yes 1 0 }
-{
-    if yes { 1 } else { 0 }
-}
-
-fn numbered(answer: SectionReply) -> SectionNumbers
-    ensures { result ≡ in_numbers answer }
-{
-    let section = answer.section;
-    let kind = section.kind;
-    let reply = answer.reply;
-    SectionNumbers {
-        reply,
-        kind: kind_number(kind),
-        owner: owner_number(kind),
-        store: flag(section.store),
-    }
-}
-
-#[unsafe(no_mangle)]
-pub extern "C" fn ivshmem_section_question(
-    hub: &[u32],
-    id: u64,
-    offset: u64,
-    size: u64,
-) -> SectionNumbers
+pub fn ivshmem_section_question(hub: &[u32], id: u64, offset: u64, size: u64) -> SectionNumbers
     ensures { AnswersInNumbers hub.now (call id (Act.question offset size)) result }
 {
     numbered(hub::section_question(hub, id, offset, size))
 }
 
-#[unsafe(no_mangle)]
-pub extern "C" fn ivshmem_load(
-    hub: &[u32],
-    region: &[u8],
-    id: u64,
-    offset: u64,
-    buffer: &mut [u8],
-) -> Reply
+pub fn ivshmem_load(hub: &[u32], region: &[u8], id: u64, offset: u64, buffer: &mut [u8]) -> Reply
     ensures { Loads hub.now region.now buffer.old buffer.new
         (call id (Act.load offset (length buffer.old))) result }
 {
-    hub::load(hub, region, id, offset, buffer)
+    replies::reply(hub::load(hub, region, id, offset, buffer))
 }
 
-#[unsafe(no_mangle)]
-pub extern "C" fn ivshmem_store(
-    hub: &[u32],
-    region: &mut [u8],
-    id: u64,
-    offset: u64,
-    stored: &[u8],
-) -> Reply
+pub fn ivshmem_store(hub: &[u32], region: &mut [u8], id: u64, offset: u64, stored: &[u8]) -> Reply
     ensures { Stores hub.now region.old region.new (call id (Act.store offset stored.now)) result }
 {
-    hub::store(hub, region, id, offset, stored)
+    replies::reply(hub::store(hub, region, id, offset, stored))
 }

@@ -7,53 +7,54 @@ ghost use Rattle.hub.specs.Promises.{Changes, SetsUp};
 ghost use Rattle.hub.specs.Queries.{connected_answer};
 ghost use Rattle.ivshmem.specs.Promises.{given};
 
-use super::SetUpNumbers;
-use device::Reply;
+use super::{SetUpNumbers, replies};
+use device::{Reply, Settings};
+
+impl From<SetUpNumbers> for Settings {
+    ghost from_gives = { λ s r. r ≡ given s };
+
+    fn from(s: SetUpNumbers) -> Self {
+        Settings {
+            peers: s.peers,
+            vectors: s.vectors,
+            table: s.table,
+            common: s.common,
+            output: s.output,
+            base: s.base,
+            protocol: u64::from(s.protocol),
+            vendor: u64::from(s.vendor),
+            subsystem: u64::from(s.subsystem),
+        }
+    }
+}
 
 // The number of this interface. It stands in the function's name, so that what was compiled for another one does not link.
-#[unsafe(no_mangle)]
-pub extern "C" fn ivshmem_interface_2() -> u32
+pub fn ivshmem_interface_2() -> u32
     ensures { result ≡ 2 }
 {
     2
 }
 
-#[unsafe(no_mangle)]
-pub extern "C" fn ivshmem_set_up_hub(hub: &mut [u32], region: &mut [u8], s: SetUpNumbers) -> Reply
+pub fn ivshmem_set_up_hub(hub: &mut [u32], region: &mut [u8], s: SetUpNumbers) -> Reply
     ensures { SetsUp hub.old hub.new region.old region.new (given s) result }
 {
-    hub::set_up(
-        hub,
-        region,
-        s.peers,
-        s.vectors,
-        s.table,
-        s.common,
-        s.output,
-        s.base,
-        s.protocol,
-        s.vendor,
-        s.subsystem,
-    )
+    replies::reply(hub::set_up(hub, region, Settings::from(s)))
 }
 
-#[unsafe(no_mangle)]
-pub extern "C" fn ivshmem_connect(hub: &mut [u32], id: u64) -> Reply
+pub fn ivshmem_connect(hub: &mut [u32], id: u64) -> Reply
     ensures { Changes hub.old hub.new (call id Act.connect) result }
 {
-    hub::connect(hub, id)
+    replies::reply(hub::connect(hub, id))
 }
 
-#[unsafe(no_mangle)]
-pub extern "C" fn ivshmem_is_sound(hub: &[u32]) -> u32
+pub fn ivshmem_is_sound(hub: &[u32]) -> u32
     ensures { result ≡ cond (sound (hub_of hub.now)) 1 0 }
 {
-    hub::is_sound(hub)
+    u32::from(hub::is_sound(hub))
 }
 
-#[unsafe(no_mangle)]
-pub extern "C" fn ivshmem_is_connected(hub: &[u32], id: u64) -> Reply
+pub fn ivshmem_is_connected(hub: &[u32], id: u64) -> Reply
     ensures { result ≡ connected_answer (hub_of hub.now) id }
 {
-    hub::is_connected(hub, id)
+    replies::reply(hub::is_connected(hub, id))
 }

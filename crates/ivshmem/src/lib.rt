@@ -2,14 +2,17 @@
 // lent. The calls that may ring other peers are here; host.rt and guest.rt have the others.
 #![tactic(auto)]
 
-ghost use Rattle.std.specs.Prelude.{ℕ};
+ghost use Rattle.std.specs.Prelude.{◌≤◌, ℕ, IfOk, length};
 ghost use Rattle.device.specs.Call.{Act};
-ghost use Rattle.ivshmem.specs.Promises.{HandsOut};
+ghost use Rattle.ivshmem.specs.Promises.{HandedOut, HandsOut};
 
+use deliveries::Deliveries;
 use device::{Delivery, Reply};
+use hub::Refusal;
 
 pub mod guest;
 pub mod host;
+mod replies;
 
 // The numbers that a hub is set up with, as a host hands them in.
 #[repr(C)]
@@ -44,8 +47,24 @@ pub struct SectionNumbers {
     pub store: u32,
 }
 
-#[unsafe(no_mangle)]
-pub extern "C" fn ivshmem_register_write(
+// The deliveries of an accepted call are written over the table from the front; a refusal leaves it.
+fn hand_out(hub: &[u32], table: &mut [Delivery], out: Result<Deliveries, Refusal>) -> Counted
+    requires { IfOk out (λ list. (list.count ≤ length list.targets) × (list.count ≤ length table.old)) }
+    ensures { HandedOut hub.now out table.old table.new result }
+{
+    match out {
+        Ok(list) => Counted {
+            reply: replies::DONE,
+            count: deliveries::hand_out(hub, table, list),
+        },
+        Err(refusal) => Counted {
+            reply: replies::refused(refusal),
+            count: 0,
+        },
+    }
+}
+
+pub fn ivshmem_register_write(
     hub: &mut [u32],
     region: &mut [u8],
     table: &mut [Delivery],
@@ -58,33 +77,18 @@ pub extern "C" fn ivshmem_register_write(
         table.old table.new id (λ (n : ℕ). Act.register_write n offset width value) result }
 {
     let out = hub::register_write(hub, region, table.len() as u64, id, offset, width, value);
-    let count = deliveries::hand_out(hub, table, out.list);
-    Counted {
-        reply: out.reply,
-        count,
-    }
+    hand_out(hub, table, out)
 }
 
-#[unsafe(no_mangle)]
-pub extern "C" fn ivshmem_reset(
-    hub: &mut [u32],
-    region: &mut [u8],
-    table: &mut [Delivery],
-    id: u64,
-) -> Counted
+pub fn ivshmem_reset(hub: &mut [u32], region: &mut [u8], table: &mut [Delivery], id: u64) -> Counted
     ensures { HandsOut hub.old hub.new region.old region.new
         table.old table.new id Act.reset result }
 {
     let out = hub::reset(hub, region, table.len() as u64, id);
-    let count = deliveries::hand_out(hub, table, out.list);
-    Counted {
-        reply: out.reply,
-        count,
-    }
+    hand_out(hub, table, out)
 }
 
-#[unsafe(no_mangle)]
-pub extern "C" fn ivshmem_disconnect(
+pub fn ivshmem_disconnect(
     hub: &mut [u32],
     region: &mut [u8],
     table: &mut [Delivery],
@@ -94,9 +98,5 @@ pub extern "C" fn ivshmem_disconnect(
         table.old table.new id Act.disconnect result }
 {
     let out = hub::disconnect(hub, region, table.len() as u64, id);
-    let count = deliveries::hand_out(hub, table, out.list);
-    Counted {
-        reply: out.reply,
-        count,
-    }
+    hand_out(hub, table, out)
 }
