@@ -13,7 +13,7 @@ use Rattle.words.specs.Layout.{hub_of, Known}
 use Rattle.words.specs.Runs.{run_of}
 use Rattle.words.proofs.LayoutLaws.{known_inside}
 use Rattle.soundness.specs.declared.absent.Gap.{Gap}
-use Rattle.soundness.specs.Absent.{absent_slot, Here, FirstAbsent, NextAbsent, Vacant, gap_reset}
+use Rattle.soundness.specs.Absent.{absent_slot, Here, NextAbsent, Vacant, gap_reset}
 use Rattle.soundness.specs.Scanned.{joined}
 use Rattle.soundness.specs.Together.{together}
 use Rattle.soundness.proofs.TogetherLaws.{reset_together}
@@ -79,13 +79,22 @@ module _ (ws : List ℕ) where
       sym (ap (λ (m : ℕ). below m (absent_slot ws)) end) ∙ below_add i (j - i) (absent_slot ws)
       ∙ ap (λ (b : Bool). b && below (j - i) (λ k. absent_slot ws (i + k))) e ∙ rest
 
+  -- the absent peers below the next are tested, and nothing is found
+  abbrev pub Passed : ℕ → Option ℕ → Type 0
+  Passed peers None = below peers (absent_slot ws) ≡ true
+  Passed peers (Some i) = Here ws peers i × (below i (absent_slot ws) ≡ true)
+
+  pub passed_next : (i peers : ℕ) (next : Option ℕ) → i ≤ peers → NextAbsent ws i peers next → below i (absent_slot ws) ≡ true → Passed peers next
+  passed_next i peers None h n e = present_more i peers h n e
+  passed_next i peers (Some j) h n e = (n.here, present_more i j n.order n.passed e)
+
   -- what is found in a run is found in all up to its end
-  pub gap_passed : (i peers from : ℕ) (gap : Gap) → FirstAbsent ws i peers from → gap.from ≡ from → Vacant ws peers gap → below i (absent_slot ws) ≡ true
+  pub gap_passed : (peers from : ℕ) (gap : Gap) → gap.from ≡ from → Vacant ws peers gap → below from (absent_slot ws) ≡ true
       → below gap.to (absent_slot ws) ≡ gap_reset ws gap.from gap.to
-  gap_passed i peers from gap n start v e =
+  gap_passed peers from gap start v e =
       let end : gap.from + (gap.to - gap.from) ≡ gap.to = omega (arith, v.some) in
       let run : below (gap.to - gap.from) (λ k. absent_slot ws (gap.from + k)) ≡ gap_reset ws gap.from gap.to =
       below_ext (gap.to - gap.from) _ _ (λ k h. rw (v.absent (gap.from + k) (omega arith) (omega (arith, v.some)))) in
-      let before : below gap.from (absent_slot ws) ≡ true = rw start (present_more i from n.order n.passed e) in
+      let before : below gap.from (absent_slot ws) ≡ true = rw start e in
       sym (ap (λ (m : ℕ). below m (absent_slot ws)) end) ∙ below_add gap.from (gap.to - gap.from) (absent_slot ws)
       ∙ ap (λ (b : Bool). b && below (gap.to - gap.from) (λ k. absent_slot ws (gap.from + k))) before ∙ run

@@ -132,9 +132,9 @@ known_id ws s i e h = omega (arith, ap (λ (s : Settings). s.peers) e)
 
 -- The registers.
 
-pub one_more : (t : Bool) → from_bool t ≤ 1
-one_more true = omega arith
-one_more false = omega arith
+pub one_more : (t : Bool) (x : ℕ) → x ≡ from_bool t → x ≤ 1
+one_more true x e = omega arith
+one_more false x e = omega arith
 
 module _ (ws : List ℕ) (s : Settings) where
   pub seen_first : Seen ws s 0 (record { all = reset_peer 0; connected = 0 })

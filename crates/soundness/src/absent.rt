@@ -64,13 +64,13 @@ impl<'a> Slots<'a> {
     pub fn absent_sound(&self) -> bool
         ensures { result ≡ below self.now.settings.peers (absent_slot self.now.hub.now) }
     {
-        let mut passed = 0;
-        while let Some(from) = self.next_absent(passed) {
+        let mut next = self.next_absent(0);
+        while let Some(from) = next {
             let gap = self.gap_from(from);
             if !self.gap_reset(gap) {
                 return false;
             }
-            passed = gap.to;
+            next = self.next_absent(gap.to);
         }
         true
     }

@@ -1,13 +1,15 @@
--- `Slots::absent_sound` meets its contract. The loop's invariant: the absent peers passed are tested, and nothing is found.
-use Prim.Native.Nat.{◌-◌, ◌≤◌}
-use mathlib.Core.Bool.{true}
-use mathlib.Core.Path.{◌≡◌}
-use Rattle.common.specs.Tests.{below}
-use Rattle.soundness.specs.Absent.{absent_slot}
+-- `Slots::absent_sound` meets its contract. The loop's invariant: the absent peers below the next are tested, and nothing is found.
+use Prim.Native.Nat.{ℕ, ◌-◌}
+use Rattle.std.specs.Prelude.{Option, Some, None}
+use Rattle.soundness.proofs.AbsentLaws.{Passed}
 use Rattle.soundness.proofs.slots.Slots.absent_sound.Given as goal
 
-abbrev pub invariant-loop-from : goal.invariant-loop-from
-invariant-loop-from l = record { most : l.passed ≤ l.self.settings.peers; tested : below l.passed (absent_slot l.self.hub.now) ≡ true }
+abbrev pub invariant-loop-next : goal.invariant-loop-next
+invariant-loop-next l = Passed l.self.hub.now l.self.settings.peers l.next
 
-abbrev pub decreases-loop-from : goal.decreases-loop-from
-decreases-loop-from l = l.self.settings.peers - l.passed
+abbrev left : ℕ → Option ℕ → ℕ
+left peers None = 0
+left peers (Some i) = peers - i
+
+abbrev pub decreases-loop-next : goal.decreases-loop-next
+decreases-loop-next l = left l.self.settings.peers l.next
