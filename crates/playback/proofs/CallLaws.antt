@@ -25,10 +25,13 @@ use Rattle.device.specs.World.{Hub, World, world, slot_at}
 use Rattle.hub.specs.declared.Served.{Served}
 use Rattle.hub.specs.Promises
 use Rattle.hub.specs.Promises.{Changes, Loads, Stores, Serves}
-use Rattle.playback.specs.Answers.{answer, done, refused_by, replied, valued}
+use Rattle.playback.specs.declared.answers.Accepted.{Accepted}
+use Rattle.playback.specs.declared.answers.Accepted.TheVariants.{Done, Delivered, Value}
+use Rattle.playback.specs.Answers.{accepted_bytes, answer, done, outcome_bytes, refused_by, replied, valued}
 use Rattle.playback.specs.Log.{Request}
-use Rattle.playback.specs.Promises.{Answers, Writes}
+use Rattle.playback.specs.Promises.{Answers}
 use Rattle.words.specs.Layout.{hub_of}
+use Rattle.std.specs.Prelude.{Result}
 
 -- a call that is not lent the region leaves it as it was
 effect_keeps : (w : World) (who : ℕ) (a : Act) → lent_to a ≡ Lent.nothing
@@ -61,9 +64,6 @@ region_kept_lem : (w : World) (c : Call) → lent_to c.act ≡ Lent.nothing → 
 unfolding step
 region_kept_lem w c e = kept_by (refusal w c) w c (effect_keeps w c.who c.act e)
 
-writes_same : {out out_after a b : List ℕ} {n : ℕ} → a ≡ b → Writes out out_after a n → Writes out out_after b n
-writes_same {out} {out_after} {a} {b} {n} e w = rw e at w
-
 replied_same : (n : ℕ) (a b : List ℕ) → (n ≡ 0 → a ≡ b) → replied n a ≡ replied n b
 unfolding replied
 replied_same n a b same = go (eqb n 0) refl
@@ -78,33 +78,34 @@ number_one [] e = absurd (omega arith)
 number_one (x ∷ []) e = omega arith
 number_one (x ∷ y ∷ l) e = absurd (omega arith)
 
-module _ (hub region out out_after : List ℕ) (c : Call) (n : ℕ) where
+module _ (hub region : List ℕ) (c : Call) (o : Result Accepted ℕ) where
   -- reads
-  pub reads_answer : (r : Reply) → reads_only c.act ≡ true → Promises.Answers hub c r → Writes out out_after (replied r.number (valued r.value)) n
-      → Answers hub hub region region out out_after (Request.reads c) n
-  unfolding answer
+  pub reads_answer : (r : Reply) → reads_only c.act ≡ true → Promises.Answers hub c r
+      → ((h : Hub) → outcome_bytes h o ≡ replied r.number (accepted_bytes h (Value r.value)))
+      → Answers hub hub region region (Request.reads c) o
+  unfolding answer accepted_bytes
   reads_answer r only a w =
-      let e = a region in
       record {
         left = sym (reads_keep_world (world (hub_of hub) region) c only).0;
-        written = writes_same (ap (λ (x : Reply). replied x.number (valued x.value)) e) w;
+        written = w (hub_of hub) ∙ ap (λ (x : Reply). replied x.number (valued x.value)) (a region);
       }
 
   -- loads of one byte: only an accepted one's byte is written
-  pub loads_answer : (before after : List ℕ) (r : Reply) → reads_only c.act ≡ true → length after ≡ 1 → Loads hub region before after c r
-      → Writes out out_after (replied r.number (valued (get_or after 0 0))) n → Answers hub hub region region out out_after (Request.loads c) n
-  unfolding answer
-  loads_answer before after r only one l w =
+  pub loads_answer : (before after : List ℕ) (r : Reply) (byte : ℕ) → reads_only c.act ≡ true → length after ≡ 1 → byte ≡ get_or after 0 0
+      → Loads hub region before after c r → ((h : Hub) → outcome_bytes h o ≡ replied r.number (accepted_bytes h (Value byte)))
+      → Answers hub hub region region (Request.loads c) o
+  unfolding answer accepted_bytes
+  loads_answer before after r byte only one is l w =
       let s = step (world (hub_of hub) region) c in
-      let e : replied r.number (valued (get_or after 0 0)) ≡ replied s.number (valued (number s.loaded)) =
-      replied_same r.number _ _ (λ z. ap valued (sym (number_one after one) ∙ ap number (l.filled z)))
+      let e : replied r.number (valued byte) ≡ replied s.number (valued (number s.loaded)) =
+      replied_same r.number _ _ (λ z. ap valued (is ∙ sym (number_one after one) ∙ ap number (l.filled z)))
       ∙ ap (λ (x : Reply). replied x.number (valued (number s.loaded))) l.reply in
-      record { left = sym (reads_keep_world (world (hub_of hub) region) c only).0; written = writes_same e w }
+      record { left = sym (reads_keep_world (world (hub_of hub) region) c only).0; written = w (hub_of hub) ∙ e }
 
   -- stores to the caller's own registers
   pub changes_answer : (after : List ℕ) (r : Reply) → lent_to c.act ≡ Lent.nothing → may_ring c.act ≡ false → Changes hub after c r
-      → Writes out out_after (replied r.number (done [])) n → Answers hub after region region out out_after (Request.does c) n
-  unfolding answer
+      → ((h : Hub) → outcome_bytes h o ≡ replied r.number (accepted_bytes h Done)) → Answers hub after region region (Request.does c) o
+  unfolding answer accepted_bytes
   changes_answer after r lent silent ch w =
       let s = step (world (hub_of hub) region) c in
       let e : replied r.number (done []) ≡ replied s.number (done s.deliveries) =
@@ -113,28 +114,28 @@ module _ (hub region out out_after : List ℕ) (c : Call) (n : ℕ) where
       record {
         left = ap (λ (h : Hub). world h region) (ch.hub region) ∙ ap (λ (g : List ℕ). world s.world.hub g)
             (sym (region_kept_lem (world (hub_of hub) region) c lent));
-        written = writes_same e w;
+        written = w (hub_of after) ∙ e;
       }
 
   -- shared stores
   pub stores_answer : (region_after : List ℕ) (r : Reply) → may_ring c.act ≡ false → Stores hub region region_after c r
-      → Writes out out_after (replied r.number (done [])) n → Answers hub hub region region_after out out_after (Request.does c) n
-  unfolding answer
+      → ((h : Hub) → outcome_bytes h o ≡ replied r.number (accepted_bytes h Done)) → Answers hub hub region region_after (Request.does c) o
+  unfolding answer accepted_bytes
   stores_answer region_after r silent st w =
       let s = step (world (hub_of hub) region) c in
       let e : replied r.number (done []) ≡ replied s.number (done s.deliveries) =
       ap (λ (x : Reply). replied x.number (done [])) st.reply ∙ ap (λ (ds : List Delivery). replied s.number (done ds))
       (sym (quiet (world (hub_of hub) region) c silent)) in
-      record { left = st.region; written = writes_same e w }
+      record { left = st.region; written = w (hub_of hub) ∙ e }
 
   -- the calls that may ring, with a table for all peers
-  module _ (after region_after : List ℕ) (r : Served) (sv : Serves hub after region region_after c r) where
-    pub served_answer : Writes out out_after (replied r.reply.number (done (listed (hub_of after) r.list))) n
-        → Answers hub after region region_after out out_after (Request.does c) n
-    unfolding answer
-    served_answer w =
-        let s = step (world (hub_of hub) region) c in
-        let e : replied r.reply.number (done (listed (hub_of after) r.list)) ≡ replied s.number (done s.deliveries) =
-        ap (λ (x : Reply). replied x.number (done (listed (hub_of after) r.list))) sv.reply
-        ∙ ap (λ (ds : List Delivery). replied s.number (done ds)) sv.list.deliveries in
-        record { left = sv.left; written = writes_same e w }
+  pub served_answer : (after region_after : List ℕ) (r : Served) → Serves hub after region region_after c r
+      → ((h : Hub) → outcome_bytes h o ≡ replied r.reply.number (accepted_bytes h (Delivered r.list)))
+      → Answers hub after region region_after (Request.does c) o
+  unfolding answer accepted_bytes
+  served_answer after region_after r sv w =
+      let s = step (world (hub_of hub) region) c in
+      let e : replied r.reply.number (done (listed (hub_of after) r.list)) ≡ replied s.number (done s.deliveries) =
+      ap (λ (x : Reply). replied x.number (done (listed (hub_of after) r.list))) sv.reply
+      ∙ ap (λ (ds : List Delivery). replied s.number (done ds)) sv.list.deliveries in
+      record { left = sv.left; written = w (hub_of after) ∙ e }
