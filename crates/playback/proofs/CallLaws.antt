@@ -8,7 +8,6 @@ use borrow.Author.Tests.{eqb-true}
 use lib.Dec.{eqb}
 use lib.ListN.{length, get_or}
 use Rattle.common.specs.Bytes.{number}
-use Rattle.deliveries.specs.Listed.{listed}
 use Rattle.device.specs.declared.Delivery.{Delivery}
 use Rattle.device.specs.declared.Reply.{Reply}
 use Rattle.device.proofs.QuietLaws.{may_ring, quiet}
@@ -22,16 +21,18 @@ use Rattle.device.specs.Registers.{memory_on}
 use Rattle.device.specs.Msix
 use Rattle.device.specs.Step.{run, run_all, effect_in, step_by, step}
 use Rattle.device.specs.World.{Hub, World, world, slot_at}
-use Rattle.hub.specs.declared.Served.{Served}
+use Rattle.deliveries.specs.declared.Deliveries.{Deliveries}
+use Rattle.hub.specs.declared.reasons.Refusal.{Refusal}
+use Rattle.hub.specs.Answered.{done_reply, value_reply}
 use Rattle.hub.specs.Promises
 use Rattle.hub.specs.Promises.{Changes, Loads, Stores, Serves}
-use Rattle.playback.specs.declared.answers.Accepted.{Accepted}
 use Rattle.playback.specs.declared.answers.Accepted.TheVariants.{Done, Delivered, Value}
 use Rattle.playback.specs.Answers.{accepted_bytes, answer, done, outcome_bytes, refused_by, replied, valued}
+use Rattle.playback.proofs.OutcomeLaws.{mapped, refused, told, told_value}
 use Rattle.playback.specs.Log.{Request}
 use Rattle.playback.specs.Promises.{Answers}
 use Rattle.words.specs.Layout.{hub_of}
-use Rattle.std.specs.Prelude.{Result}
+use Rattle.std.specs.Prelude.{Result, Ok, Err}
 
 -- a call that is not lent the region leaves it as it was
 effect_keeps : (w : World) (who : ℕ) (a : Act) → lent_to a ≡ Lent.nothing
@@ -78,64 +79,70 @@ number_one [] e = absurd (omega arith)
 number_one (x ∷ []) e = omega arith
 number_one (x ∷ y ∷ l) e = absurd (omega arith)
 
-module _ (hub region : List ℕ) (c : Call) (o : Result Accepted ℕ) where
+module _ (hub region : List ℕ) (c : Call) where
   -- reads
-  pub reads_answer : (r : Reply) → reads_only c.act ≡ true → Promises.Answers hub c r
-      → ((h : Hub) → outcome_bytes h o ≡ replied r.number (accepted_bytes h (Value r.value)))
-      → Answers hub hub region region (Request.reads c) o
-  unfolding answer accepted_bytes
-  reads_answer r only a w =
+  pub reads_answer : (r : Result ℕ Refusal) → reads_only c.act ≡ true → Promises.Answers hub c (value_reply r)
+      → Answers hub hub region region (Request.reads c) (mapped Value r)
+  unfolding answer
+  reads_answer r only a =
       record {
         left = sym (reads_keep_world (world (hub_of hub) region) c only).0;
-        written = w (hub_of hub) ∙ ap (λ (x : Reply). replied x.number (valued x.value)) (a region);
+        written = told_value (hub_of hub) r ∙ ap (λ (x : Reply). replied x.number (valued x.value)) (a region);
       }
 
   -- loads of one byte: only an accepted one's byte is written
-  pub loads_answer : (before after : List ℕ) (r : Reply) (byte : ℕ) → reads_only c.act ≡ true → length after ≡ 1 → byte ≡ get_or after 0 0
-      → Loads hub region before after c r → ((h : Hub) → outcome_bytes h o ≡ replied r.number (accepted_bytes h (Value byte)))
-      → Answers hub hub region region (Request.loads c) o
+  pub loads_answer : (before after : List ℕ) (r : Result (Unit {0}) Refusal) (byte : ℕ) → reads_only c.act ≡ true → length after ≡ 1
+      → byte ≡ get_or after 0 0 → Loads hub region before after c (done_reply r)
+      → Answers hub hub region region (Request.loads c) (mapped (λ x. Value byte) r)
   unfolding answer accepted_bytes
-  loads_answer before after r byte only one is l w =
+  loads_answer before after r byte only one is l =
       let s = step (world (hub_of hub) region) c in
-      let e : replied r.number (valued byte) ≡ replied s.number (valued (number s.loaded)) =
-      replied_same r.number _ _ (λ z. ap valued (is ∙ sym (number_one after one) ∙ ap number (l.filled z)))
+      let e : replied (done_reply r).number (valued byte) ≡ replied s.number (valued (number s.loaded)) =
+      replied_same (done_reply r).number _ _ (λ z. ap valued (is ∙ sym (number_one after one) ∙ ap number (l.filled z)))
       ∙ ap (λ (x : Reply). replied x.number (valued (number s.loaded))) l.reply in
-      record { left = sym (reads_keep_world (world (hub_of hub) region) c only).0; written = w (hub_of hub) ∙ e }
+      record {
+        left = sym (reads_keep_world (world (hub_of hub) region) c only).0;
+        written = told (λ x. Value byte) (valued byte) (hub_of hub) r (λ a. refl) ∙ e;
+      }
 
   -- stores to the caller's own registers
-  pub changes_answer : (after : List ℕ) (r : Reply) → lent_to c.act ≡ Lent.nothing → may_ring c.act ≡ false → Changes hub after c r
-      → ((h : Hub) → outcome_bytes h o ≡ replied r.number (accepted_bytes h Done)) → Answers hub after region region (Request.does c) o
+  pub changes_answer : (after : List ℕ) (r : Result (Unit {0}) Refusal) → lent_to c.act ≡ Lent.nothing → may_ring c.act ≡ false
+      → Changes hub after c (done_reply r) → Answers hub after region region (Request.does c) (mapped (λ x. Done) r)
   unfolding answer accepted_bytes
-  changes_answer after r lent silent ch w =
+  changes_answer after r lent silent ch =
       let s = step (world (hub_of hub) region) c in
-      let e : replied r.number (done []) ≡ replied s.number (done s.deliveries) =
+      let e : replied (done_reply r).number (done []) ≡ replied s.number (done s.deliveries) =
       ap (λ (x : Reply). replied x.number (done [])) (ch.reply region)
       ∙ ap (λ (ds : List Delivery). replied s.number (done ds)) (sym (quiet (world (hub_of hub) region) c silent)) in
       record {
         left = ap (λ (h : Hub). world h region) (ch.hub region) ∙ ap (λ (g : List ℕ). world s.world.hub g)
             (sym (region_kept_lem (world (hub_of hub) region) c lent));
-        written = w (hub_of after) ∙ e;
+        written = told (λ x. Done) (done []) (hub_of after) r (λ a. refl) ∙ e;
       }
 
   -- shared stores
-  pub stores_answer : (region_after : List ℕ) (r : Reply) → may_ring c.act ≡ false → Stores hub region region_after c r
-      → ((h : Hub) → outcome_bytes h o ≡ replied r.number (accepted_bytes h Done)) → Answers hub hub region region_after (Request.does c) o
+  pub stores_answer : (region_after : List ℕ) (r : Result (Unit {0}) Refusal) → may_ring c.act ≡ false
+      → Stores hub region region_after c (done_reply r) → Answers hub hub region region_after (Request.does c) (mapped (λ x. Done) r)
   unfolding answer accepted_bytes
-  stores_answer region_after r silent st w =
+  stores_answer region_after r silent st =
       let s = step (world (hub_of hub) region) c in
-      let e : replied r.number (done []) ≡ replied s.number (done s.deliveries) =
+      let e : replied (done_reply r).number (done []) ≡ replied s.number (done s.deliveries) =
       ap (λ (x : Reply). replied x.number (done [])) st.reply ∙ ap (λ (ds : List Delivery). replied s.number (done ds))
       (sym (quiet (world (hub_of hub) region) c silent)) in
-      record { left = st.region; written = w (hub_of hub) ∙ e }
+      record { left = st.region; written = told (λ x. Done) (done []) (hub_of hub) r (λ a. refl) ∙ e }
 
   -- the calls that may ring, with a table for all peers
-  pub served_answer : (after region_after : List ℕ) (r : Served) → Serves hub after region region_after c r
-      → ((h : Hub) → outcome_bytes h o ≡ replied r.reply.number (accepted_bytes h (Delivered r.list)))
-      → Answers hub after region region_after (Request.does c) o
-  unfolding answer accepted_bytes
-  served_answer after region_after r sv w =
-      let s = step (world (hub_of hub) region) c in
-      let e : replied r.reply.number (done (listed (hub_of after) r.list)) ≡ replied s.number (done s.deliveries) =
-      ap (λ (x : Reply). replied x.number (done (listed (hub_of after) r.list))) sv.reply
-      ∙ ap (λ (ds : List Delivery). replied s.number (done ds)) sv.list.deliveries in
-      record { left = sv.left; written = w (hub_of after) ∙ e }
+  pub served_answer : (after region_after : List ℕ) (r : Result Deliveries Refusal) → Serves hub after region region_after c r
+      → Answers hub after region region_after (Request.does c) (mapped Delivered r)
+  unfolding answer accepted_bytes outcome_bytes replied
+  served_answer after region_after r sv = record { left = sv.left; written = go r sv }
+    where
+      go : (r : Result Deliveries Refusal) → Serves hub after region region_after c r
+          → outcome_bytes (hub_of after) (mapped Delivered r)
+          ≡ replied (step (world (hub_of hub) region) c).number (done (step (world (hub_of hub) region) c).deliveries)
+      go (Ok list) sv =
+          ap done sv.list.deliveries
+          ∙ ap (λ (x : Reply). replied x.number (done (step (world (hub_of hub) region) c).deliveries)) sv.reply
+      go (Err e) sv =
+          refused e (done (step (world (hub_of hub) region) c).deliveries)
+          ∙ ap (λ (x : Reply). replied x.number (done (step (world (hub_of hub) region) c).deliveries)) sv.reply

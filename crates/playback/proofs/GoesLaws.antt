@@ -12,12 +12,10 @@ use Rattle.playback.proofs.LentLaws.{lent_back}
 use Rattle.playback.proofs.OverLaws.{nothing_over}
 use Rattle.playback.proofs.RecordLaws.{record_short}
 use Rattle.playback.specs.declared.Progress.{Progress}
-use Rattle.playback.specs.declared.answers.Accepted.{Accepted}
-use Rattle.playback.specs.Answers.{answer, outcome_bytes}
+use Rattle.playback.specs.Answers.{Outcome, answer, outcome_bytes}
 use Rattle.playback.specs.Log.{Request, kind_of, longest_record, record_length, request_of}
 use Rattle.playback.specs.Player.{player, after, fed}
 use Rattle.playback.specs.Promises.{Answers, Goes, Lent, Writes, world_in, player_in}
-use Rattle.std.specs.Prelude.{Result}
 use Rattle.words.specs.Layout.{hub_of}
 
 -- nothing is held
@@ -31,7 +29,7 @@ module _ (hub region held out out_after : List ℕ) (words bytes n : ℕ) where
   unknown_goes lent w = record { player = refl; written = w; lent = lent }
 
   -- the parts in use were lent to a call, and came back
-  pub call_goes : (hub_after region_after : List ℕ) (q : Request) (o : Result Accepted ℕ) → (answer (world_in hub region words bytes) q).stops ≡ false
+  pub call_goes : (hub_after region_after : List ℕ) (q : Request) (o : Outcome) → (answer (world_in hub region words bytes) q).stops ≡ false
       → Lent hub region held (in_use words bytes false) → length hub_after ≡ words → length region_after ≡ bytes
       → Answers (take words hub) hub_after (take bytes region) region_after q o
       → Writes out out_after (outcome_bytes (hub_of (take words (hub_after ++ drop words hub))) o) n

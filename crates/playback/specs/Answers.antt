@@ -9,6 +9,8 @@ use Rattle.device.specs.Sizes.{max_peers}
 use Rattle.device.specs.Step.{step}
 use Rattle.device.specs.World.{Hub, World, world, zero_hub}
 use Rattle.deliveries.specs.Listed.{listed}
+use Rattle.hub.specs.declared.reasons.Refusal.{Refusal}
+use Rattle.hub.specs.Answered.{number_of}
 use Rattle.playback.specs.declared.answers.Accepted.{Accepted}
 use Rattle.playback.specs.declared.answers.Accepted.TheVariants.{Done, Delivered, Value}
 use Rattle.playback.specs.Log.{Request}
@@ -43,9 +45,12 @@ accepted_bytes hub Done = done []
 accepted_bytes hub (Delivered list) = done (listed hub list)
 accepted_bytes hub (Value x) = valued x
 
-unfoldable pub outcome_bytes : Hub → Result Accepted ℕ → List ℕ
+abbrev pub Outcome : Type 0
+Outcome = Result Accepted Refusal
+
+unfoldable pub outcome_bytes : Hub → Outcome → List ℕ
 outcome_bytes hub (Ok answer) = accepted_bytes hub answer
-outcome_bytes hub (Err number) = refused_by number
+outcome_bytes hub (Err refusal) = refused_by (number_of refusal)
 
 -- no answer is longer: done, and a delivery to each peer
 abbrev pub longest : ℕ

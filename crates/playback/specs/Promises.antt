@@ -10,8 +10,7 @@ use Rattle.playback.specs.declared.Progress.{Progress}
 use Rattle.playback.specs.declared.Refusal.{Refusal}
 use Rattle.playback.specs.declared.Refusal.TheVariants.{OtherMemory, ShortBuffer}
 use Rattle.playback.specs.declared.Report.{Report}
-use Rattle.playback.specs.declared.answers.Accepted.{Accepted}
-use Rattle.playback.specs.Answers.{answer, longest, max_total, outcome_bytes}
+use Rattle.playback.specs.Answers.{Outcome, answer, longest, max_total, outcome_bytes}
 use Rattle.playback.specs.Log.{Request, longest_record}
 use Rattle.playback.specs.Player.{Player, player, fed, ending}
 use Rattle.words.specs.Layout.{hub_words, hub_of}
@@ -55,7 +54,7 @@ pub record Writes (before after written : List ℕ) (n : ℕ) : Type 0 where
   pub fits : n ≤ length before
 
 -- A call, on the hub and the region in use: what it leaves, and what is to be written for it.
-pub record Answers (hub after region region_after : List ℕ) (q : Request) (r : Result Accepted ℕ) : Type 0 where
+pub record Answers (hub after region region_after : List ℕ) (q : Request) (r : Outcome) : Type 0 where
   pub left : world (hub_of after) region_after ≡ (answer (world (hub_of hub) region) q).world
   pub written : outcome_bytes (hub_of after) r ≡ (answer (world (hub_of hub) region) q).written
 
@@ -88,9 +87,9 @@ refusal_number OtherMemory = 10
 refusal_number ShortBuffer = 11
 
 -- the number that a call is refused by; 0 where it is not
-abbrev pub refused_by : {T : Type 0} → Result T Refusal → ℕ
-refused_by (Ok x) = 0
-refused_by (Err e) = refusal_number e
+abbrev pub refusal_in : {T : Type 0} → Result T Refusal → ℕ
+refusal_in (Ok x) = 0
+refusal_in (Err e) = refusal_number e
 
 -- A refused piece changes nothing.
 pub record Refuses (hub after region region_after held held_after out out_after : List ℕ) : Type 0 where
@@ -101,5 +100,5 @@ pub record Refuses (hub after region region_after held held_after out out_after 
 
 -- The end of the input: how many bytes a player writes there, and nothing where it is refused.
 pub record Ends (hub region held out out_after : List ℕ) (p : Progress) (r : Result ℕ Refusal) : Type 0 where
-  pub number : refused_by r ≡ refusal_of hub region held p (length out)
+  pub number : refusal_in r ≡ refusal_of hub region held p (length out)
   pub written : MatchResult r (Writes out out_after (ending (player_in hub region held p))) (λ e. out_after ≡ out)

@@ -10,6 +10,7 @@ ghost use Rattle.playback.specs.Promises.{Writes};
 
 use deliveries::Deliveries;
 use device::{Delivery, Vector};
+use hub::Refusal;
 
 // What an accepted call is answered by.
 #[derive(Clone, Copy)]
@@ -95,12 +96,12 @@ fn write_accepted(hub: &[u32], answer: Accepted, out: &mut [u8]) -> usize
 }
 
 // A call's answer, on the hub as it is after the call.
-pub fn write(hub: &[u32], outcome: Result<Accepted, u32>, out: &mut [u8]) -> usize
+pub fn write(hub: &[u32], outcome: Result<Accepted, Refusal>, out: &mut [u8]) -> usize
     requires { longest ≤ length out.old }
     ensures { Writes out.old out.new (outcome_bytes (hub_of hub.now) outcome) result }
 {
     match outcome {
         Ok(answer) => write_accepted(hub, answer, out),
-        Err(number) => refused(out, number),
+        Err(refusal) => refused(out, refusal.number()),
     }
 }

@@ -1,89 +1,92 @@
 // The calls that records ask for: one function for each kind.
-ghost use Rattle.std.specs.Prelude.{◌≡◌, ℕ, List, [], ◌∷◌};
+ghost use Rattle.std.specs.Prelude.{◌≡◌, ℕ, List, [], ◌∷◌, IfOk};
 ghost use Rattle.device.specs.Call.{Act};
 ghost use Rattle.device.specs.Sizes.{max_peers};
-ghost use Rattle.device.specs.World.{Hub};
-ghost use Rattle.playback.specs.Answers.{accepted_bytes, outcome_bytes, replied};
+ghost use Rattle.hub.specs.Answered.{done_reply};
+ghost use Rattle.hub.specs.Promises.{SetsUp};
 ghost use Rattle.playback.specs.Log.{Request, field, call_in};
 ghost use Rattle.playback.specs.Promises.{Answers};
 
 use super::answers::Accepted;
 use super::fields::Fields;
-use device::Reply;
+use device::Settings;
+use hub::Refusal;
 
-// Where it is accepted, a call is answered by this, else by the refusal's number.
-pub fn accepted(reply: Reply, answer: Accepted) -> Result<Accepted, u32>
-    ensures { (h : Hub) → outcome_bytes h result ≡ replied reply.number (accepted_bytes h answer) }
+pub fn set_up(hub: &mut [u32], region: &mut [u8], s: Settings) -> Result<Accepted, Refusal>
+    ensures sets { SetsUp hub.old hub.new region.old region.new s (done_reply result) }
+    ensures done { IfOk result (λ answer. answer ≡ Accepted.Done) }
 {
-    if reply.number == 0 {
-        Ok(answer)
-    } else {
-        Err(reply.number)
-    }
+    hub::set_up(hub, region, s)?;
+    Ok(Accepted::Done)
 }
 
-pub fn connect(hub: &mut [u32], fields: Fields) -> Result<Accepted, u32>
+pub fn connect(hub: &mut [u32], fields: Fields) -> Result<Accepted, Refusal>
     ensures { (region : List ℕ) → Answers hub.old hub.new region region
         (Request.does (call_in fields.entry.bytes.now Act.connect)) result }
 {
-    accepted(hub::connect(hub, fields.id()), Accepted::Done)
+    hub::connect(hub, fields.id())?;
+    Ok(Accepted::Done)
 }
 
-pub fn disconnect(hub: &mut [u32], region: &mut [u8], fields: Fields) -> Result<Accepted, u32>
+pub fn disconnect(hub: &mut [u32], region: &mut [u8], fields: Fields) -> Result<Accepted, Refusal>
     ensures { Answers hub.old hub.new region.old region.new
         (Request.does (call_in fields.entry.bytes.now (Act.disconnect max_peers))) result }
 {
-    let s = hub::disconnect(hub, region, device::max_peers() as u64, fields.id());
-    accepted(s.reply, Accepted::Delivered(s.list))
+    let list = hub::disconnect(hub, region, device::max_peers() as u64, fields.id())?;
+    Ok(Accepted::Delivered(list))
 }
 
-pub fn reset(hub: &mut [u32], region: &mut [u8], fields: Fields) -> Result<Accepted, u32>
+pub fn reset(hub: &mut [u32], region: &mut [u8], fields: Fields) -> Result<Accepted, Refusal>
     ensures { Answers hub.old hub.new region.old region.new
         (Request.does (call_in fields.entry.bytes.now (Act.reset max_peers))) result }
 {
-    let s = hub::reset(hub, region, device::max_peers() as u64, fields.id());
-    accepted(s.reply, Accepted::Delivered(s.list))
+    let list = hub::reset(hub, region, device::max_peers() as u64, fields.id())?;
+    Ok(Accepted::Delivered(list))
 }
 
-pub fn configuration_read(hub: &[u32], fields: Fields) -> Result<Accepted, u32>
+pub fn configuration_read(hub: &[u32], fields: Fields) -> Result<Accepted, Refusal>
     ensures { (region : List ℕ) → Answers hub.now hub.now region region
         (Request.reads (call_in fields.entry.bytes.now (Act.configuration_read (field 3 2 fields.entry.bytes.now)
         (field 5 1 fields.entry.bytes.now)))) result }
 {
-    let r = hub::configuration_read(hub, fields.id(), fields.offset(), fields.width());
-    accepted(r, Accepted::Value(r.value))
+    let value = hub::configuration_read(hub, fields.id(), fields.offset(), fields.width())?;
+    Ok(Accepted::Value(value))
 }
 
-pub fn configuration_write(hub: &mut [u32], fields: Fields) -> Result<Accepted, u32>
+pub fn configuration_write(hub: &mut [u32], fields: Fields) -> Result<Accepted, Refusal>
     ensures { (region : List ℕ) → Answers hub.old hub.new region region
         (Request.does (call_in fields.entry.bytes.now (Act.configuration_write (field 3 2 fields.entry.bytes.now)
         (field 5 1 fields.entry.bytes.now) (field 6 4 fields.entry.bytes.now)))) result }
 {
-    let r = hub::configuration_write(
+    hub::configuration_write(
         hub,
         fields.id(),
         fields.offset(),
         fields.width(),
         fields.value(6),
-    );
-    accepted(r, Accepted::Done)
+    )?;
+    Ok(Accepted::Done)
 }
 
-pub fn register_read(hub: &[u32], fields: Fields) -> Result<Accepted, u32>
+pub fn register_read(hub: &[u32], fields: Fields) -> Result<Accepted, Refusal>
     ensures { (region : List ℕ) → Answers hub.now hub.now region region
         (Request.reads (call_in fields.entry.bytes.now (Act.register_read (field 3 2 fields.entry.bytes.now) 4))) result }
 {
-    let r = hub::register_read(hub, fields.id(), fields.offset(), 4);
-    accepted(r, Accepted::Value(r.value))
+    let value = hub::register_read(hub, fields.id(), fields.offset(), 4)?;
+    Ok(Accepted::Value(value))
 }
 
-pub fn register_write(hub: &mut [u32], region: &mut [u8], fields: Fields) -> Result<Accepted, u32>
+pub fn register_write(
+    hub: &mut [u32],
+    region: &mut [u8],
+    fields: Fields,
+) -> Result<Accepted, Refusal>
     ensures { Answers hub.old hub.new region.old region.new
         (Request.does (call_in fields.entry.bytes.now (Act.register_write max_peers
         (field 3 2 fields.entry.bytes.now) 4 (field 5 4 fields.entry.bytes.now)))) result }
 {
     let n = device::max_peers() as u64;
-    let s = hub::register_write(
+    let list = hub::register_write(
         hub,
         region,
         n,
@@ -91,54 +94,54 @@ pub fn register_write(hub: &mut [u32], region: &mut [u8], fields: Fields) -> Res
         fields.offset(),
         4,
         fields.value(5),
-    );
-    accepted(s.reply, Accepted::Delivered(s.list))
+    )?;
+    Ok(Accepted::Delivered(list))
 }
 
-pub fn msix_read(hub: &[u32], fields: Fields) -> Result<Accepted, u32>
+pub fn msix_read(hub: &[u32], fields: Fields) -> Result<Accepted, Refusal>
     ensures { (region : List ℕ) → Answers hub.now hub.now region region
         (Request.reads (call_in fields.entry.bytes.now (Act.msix_read (field 3 2 fields.entry.bytes.now) 4))) result }
 {
-    let r = hub::msix_read(hub, fields.id(), fields.offset(), 4);
-    accepted(r, Accepted::Value(r.value))
+    let value = hub::msix_read(hub, fields.id(), fields.offset(), 4)?;
+    Ok(Accepted::Value(value))
 }
 
-pub fn msix_write(hub: &mut [u32], fields: Fields) -> Result<Accepted, u32>
+pub fn msix_write(hub: &mut [u32], fields: Fields) -> Result<Accepted, Refusal>
     ensures { (region : List ℕ) → Answers hub.old hub.new region region
         (Request.does (call_in fields.entry.bytes.now (Act.msix_write (field 3 2 fields.entry.bytes.now) 4
         (field 5 4 fields.entry.bytes.now)))) result }
 {
-    let r = hub::msix_write(hub, fields.id(), fields.offset(), 4, fields.value(5));
-    accepted(r, Accepted::Done)
+    hub::msix_write(hub, fields.id(), fields.offset(), 4, fields.value(5))?;
+    Ok(Accepted::Done)
 }
 
-pub fn load(hub: &[u32], region: &[u8], fields: Fields) -> Result<Accepted, u32>
+pub fn load(hub: &[u32], region: &[u8], fields: Fields) -> Result<Accepted, Refusal>
     ensures { Answers hub.now hub.now region.now region.now
         (Request.loads (call_in fields.entry.bytes.now (Act.load (field 3 4 fields.entry.bytes.now) 1))) result }
 {
     let mut loaded = [0u8; 1];
-    let r = hub::load(
+    hub::load(
         hub,
         region,
         fields.id(),
         fields.shared_offset(),
         &mut loaded,
-    );
-    accepted(r, Accepted::Value(u32::from(loaded[0])))
+    )?;
+    Ok(Accepted::Value(u32::from(loaded[0])))
 }
 
-pub fn store(hub: &[u32], region: &mut [u8], fields: Fields) -> Result<Accepted, u32>
+pub fn store(hub: &[u32], region: &mut [u8], fields: Fields) -> Result<Accepted, Refusal>
     ensures { Answers hub.now hub.now region.old region.new
         (Request.does (call_in fields.entry.bytes.now (Act.store (field 3 4 fields.entry.bytes.now)
         ((field 7 1 fields.entry.bytes.now) ∷ [])))) result }
 {
     let bytes = fields.bytes;
-    let r = hub::store(
+    hub::store(
         hub,
         region,
         fields.id(),
         fields.shared_offset(),
         &bytes[7..8],
-    );
-    accepted(r, Accepted::Done)
+    )?;
+    Ok(Accepted::Done)
 }

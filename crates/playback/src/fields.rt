@@ -28,14 +28,6 @@ impl<'a> Fields<'a> {
         *bytes[at..at + N].as_array().unwrap()
     }
 
-    // A number of two bytes.
-    pub fn two(self, at: usize) -> u16
-        requires { at + 2 ≤ longest_record }
-        ensures { result ≡ field at 2 self.entry.bytes.now }
-    {
-        u16::from_le_bytes(self.part(at))
-    }
-
     // Of the peer that calls.
     pub fn id(self) -> u64
         ensures { result ≡ field 1 2 self.entry.bytes.now }

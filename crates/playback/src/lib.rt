@@ -11,7 +11,7 @@ mod records;
 ghost use Rattle.std.specs.Prelude.{◌≡◌, ℕ, ◌≤◌, false, List, length, IfOk, OnOk, OnErr};
 ghost use Rattle.playback.specs.Answers.{longest};
 ghost use Rattle.playback.specs.Player.{fed, fresh};
-ghost use Rattle.playback.specs.Promises.{Lent, Goes, Feeds, Refuses, Ends, player_in, is_lent, refusal_of, refusal_number, refused_by};
+ghost use Rattle.playback.specs.Promises.{Lent, Goes, Feeds, Refuses, Ends, player_in, is_lent, refusal_of, refusal_number, refusal_in};
 
 use fields::Fields;
 use std::error::Error;
@@ -112,7 +112,7 @@ fn lent(hub: &[u32], region: &[u8], held: &[u8], p: Progress) -> bool
 
 // The memory first, then a buffer's room for the longest answer.
 fn admit(hub: &[u32], region: &[u8], held: &[u8], p: Progress, room: usize) -> Result<(), Refusal>
-    ensures is { refused_by result ≡ refusal_of hub.now region.now held.now p room }
+    ensures is { refusal_in result ≡ refusal_of hub.now region.now held.now p room }
     ensures facts { OnOk result (Lent hub.now region.now held.now p × (longest ≤ room)) }
 {
     if !lent(hub, region, held, p) {
@@ -203,7 +203,7 @@ pub fn feed(
     piece: &[u8],
     out: &mut [u8],
 ) -> Result<Report, Refusal>
-    ensures number { refused_by result ≡ refusal_of hub.old region.old held.old progress (length out.old) }
+    ensures number { refusal_in result ≡ refusal_of hub.old region.old held.old progress (length out.old) }
     ensures refused { OnErr result (Refuses hub.old hub.new region.old region.new held.old held.new out.old out.new) }
     ensures fed { IfOk result (λ r. Feeds (player_in hub.old region.old held.old progress)
         hub.new region.new held.new piece.now out.old out.new r) }

@@ -1,9 +1,10 @@
 // Records: how long each is, and what a whole one is answered by.
-ghost use Rattle.std.specs.Prelude.{◌≡◌, ℕ, ◌<◌, ◌≤◌, false, true, List, length, MatchOption};
+ghost use Rattle.std.specs.Prelude.{◌≡◌, ℕ, ◌<◌, ◌≤◌, false, true, List, length, MatchResult};
 ghost use Rattle.device.specs.SetUp.{accepted, total};
 ghost use Rattle.device.specs.Sizes.{max_peers, max_vectors};
 ghost use Rattle.device.specs.World.{World};
 ghost use Rattle.words.specs.Layout.{hub_words};
+ghost use Rattle.hub.specs.Answered.{number_of};
 ghost use Rattle.playback.specs.Answers.{answer, longest, max_total, set_up_number};
 ghost use Rattle.playback.specs.Kinds.{kind_number};
 ghost use Rattle.playback.specs.Log.{Request, kind_of, record_length, request_of, settings_in, longest_record};
@@ -15,6 +16,7 @@ use super::fields::Fields;
 use super::kinds::{Kind, UnknownKind};
 use super::{Progress, Taken, calls};
 use device::Settings;
+use hub::Refusal;
 
 // Of the record that begins with this byte. An unknown kind has no body.
 pub fn length(byte: u8) -> usize
@@ -26,19 +28,20 @@ pub fn length(byte: u8) -> usize
     }
 }
 
-// Where the player stands after an accepted set-up with these numbers. None: they are not accepted, or its region is too small.
-fn playable(s: Settings) -> Option<Progress>
-    ensures { MatchOption result (set_up_number s ≡ 1) (λ p. (accepted s ≡ true) × (total s ≤ max_total)
-        × (p ≡ record { words = hub_words s.peers s.vectors; bytes = total s; held = 0; stopped = false })) }
+// Where the player stands after a set-up with these numbers, if they are accepted and its region is large enough.
+fn playable(s: Settings) -> Result<Progress, Refusal>
+    ensures { MatchResult result (λ p. (accepted s ≡ true) × (total s ≤ max_total)
+        × (p ≡ record { words = hub_words s.peers s.vectors; bytes = total s; held = 0; stopped = false }))
+        (λ e. (number_of e ≡ 1) × (set_up_number s ≡ 1)) }
 {
     if !soundness::accepted(s) {
-        return None;
+        return Err(Refusal::BadSetting);
     }
     let total = soundness::total(s);
     if total > super::REGION_BYTES as u64 {
-        return None;
+        return Err(Refusal::BadSetting);
     }
-    Some(Progress {
+    Ok(Progress {
         words: words::hub_words(s.peers as usize, s.vectors as usize),
         bytes: total as usize,
         held: 0,
@@ -54,31 +57,26 @@ fn set_up(hub: &mut [u32], region: &mut [u8], fields: Fields, out: &mut [u8]) ->
         (after (answer w (Request.set_up (settings_in fields.entry.bytes.now)))) }
 {
     let s = fields.settings();
-    let Some(progress) = playable(s) else {
-        let written = answers::write(hub, Err(1), out);
-        let progress = Progress::start();
-        return Taken { progress, written };
-    };
-    let r = hub::set_up(
-        &mut hub[..progress.words],
-        &mut region[..progress.bytes],
-        s.peers,
-        s.vectors,
-        s.table,
-        s.common,
-        s.output,
-        s.base,
-        fields.two(33),
-        fields.two(35),
-        fields.two(37),
-    );
-    let outcome = calls::accepted(r, Accepted::Done);
-    let written = answers::write(hub, outcome, out);
-    Taken { progress, written }
+    match playable(s) {
+        Ok(progress) => {
+            let outcome = calls::set_up(
+                &mut hub[..progress.words],
+                &mut region[..progress.bytes],
+                s,
+            );
+            let written = answers::write(hub, outcome, out);
+            Taken { progress, written }
+        }
+        Err(refusal) => {
+            let written = answers::write(hub, Err(refusal), out);
+            let progress = Progress::start();
+            Taken { progress, written }
+        }
+    }
 }
 
 // A call, by its kind. The hub and the region are the parts of the lent memory that are in use.
-fn call(kind: Kind, hub: &mut [u32], region: &mut [u8], fields: Fields) -> Result<Accepted, u32>
+fn call(kind: Kind, hub: &mut [u32], region: &mut [u8], fields: Fields) -> Result<Accepted, Refusal>
     requires { 0 < kind_number kind }
     ensures { Answers hub.old hub.new region.old region.new
         (request_of (kind_number kind) fields.entry.bytes.now) result }

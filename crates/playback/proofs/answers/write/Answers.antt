@@ -13,4 +13,4 @@ returns-in-Ok c = rw c.in-Ok.is c.write_accepted.ensures
 
 pub returns-in-Err : goal.returns-in-Err
 unfolding outcome_bytes
-returns-in-Err c = rw c.in-Err.is c.refused.ensures
+returns-in-Err c = rw c.in-Err.is (rw c.number.ensures at c.refused.ensures)

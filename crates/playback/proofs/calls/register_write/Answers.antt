@@ -1,9 +1,16 @@
 -- `playback::calls::register_write` meets its contract.
+use Rattle.std.proofs.lemmas.Result.{err_from_is_err_and}
 use Rattle.device.specs.Call.{Act, call}
 use Rattle.playback.proofs.CallLaws.{served_answer}
 use Rattle.playback.proofs.calls.register_write.Goals as goal
 
+pub returns-in_err-list : goal.returns-in_err-list
+returns-in_err-list c =
+    let p = err_from_is_err_and c.from_residual.result c.from_residual.ensures.1 in
+    rw (p.1, p.2, ← c.id.ensures, ← c.max_peers-n.ensures, ← c.offset.ensures, ← c.value.ensures)
+    (rw c.in_err-list.was at (served_answer c.args.hub.now c.args.region.now (call c.id.result (Act.register_write c.max_peers-n.result c.offset.result 4 c.value.result)) _ _ _ c.register_write.ensures))
+
 pub returns : goal.returns
 returns c =
     rw (← c.id.ensures, ← c.max_peers-n.ensures, ← c.offset.ensures, ← c.value.ensures)
-    (served_answer c.args.hub.now c.args.region.now (call c.id.result (Act.register_write c.max_peers-n.result c.offset.result 4 c.value.result)) _ _ _ _ c.register_write-s.ensures c.accepted.ensures)
+    (rw c.in_ok-list.was at (served_answer c.args.hub.now c.args.region.now (call c.id.result (Act.register_write c.max_peers-n.result c.offset.result 4 c.value.result)) _ _ _ c.register_write.ensures))

@@ -1,8 +1,0 @@
--- `playback::fields::Fields::two` meets its contract: the field is the number of its bytes.
-use mathlib.Core.Path.{◌∙◌}
-use native.Mathlib.Omega.{arith}
-use Rattle.playback.proofs.FieldLaws.{two_number}
-use Rattle.playback.proofs.fields.Fields.two.Goals as goal
-
-pub returns : goal.returns
-returns c = c.from_le_bytes.ensures ∙ two_number c.args.at c.args.self.bytes.now _ c.part.ensures (omega arith)
