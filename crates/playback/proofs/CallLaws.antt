@@ -8,7 +8,6 @@ use borrow.Author.Tests.{eqb-true}
 use lib.Dec.{eqb}
 use lib.ListN.{length, get_or}
 use Rattle.common.specs.Bytes.{number}
-use Rattle.deliveries.specs.Listed.{listed}
 use Rattle.device.specs.declared.Delivery.{Delivery}
 use Rattle.device.specs.declared.Reply.{Reply}
 use Rattle.device.proofs.QuietLaws.{may_ring, quiet}
@@ -22,13 +21,18 @@ use Rattle.device.specs.Registers.{memory_on}
 use Rattle.device.specs.Msix
 use Rattle.device.specs.Step.{run, run_all, effect_in, step_by, step}
 use Rattle.device.specs.World.{Hub, World, world, slot_at}
-use Rattle.hub.specs.declared.Served.{Served}
+use Rattle.deliveries.specs.declared.Deliveries.{Deliveries}
+use Rattle.hub.specs.declared.reasons.Refusal.{Refusal}
+use Rattle.hub.specs.Answered.{done_reply, value_reply}
 use Rattle.hub.specs.Promises
 use Rattle.hub.specs.Promises.{Changes, Loads, Stores, Serves}
-use Rattle.playback.specs.Answers.{answer, done, refused_by, replied, valued}
+use Rattle.playback.specs.declared.answers.Accepted.TheVariants.{Done, Delivered, Value}
+use Rattle.playback.specs.Answers.{accepted_bytes, answer, done, outcome_bytes, refused_by, replied, valued}
+use Rattle.playback.proofs.OutcomeLaws.{mapped, refused, told, told_value}
 use Rattle.playback.specs.Log.{Request}
-use Rattle.playback.specs.Promises.{Answers, Writes}
+use Rattle.playback.specs.Promises.{Answers}
 use Rattle.words.specs.Layout.{hub_of}
+use Rattle.std.specs.Prelude.{Result, Ok, Err}
 
 -- a call that is not lent the region leaves it as it was
 effect_keeps : (w : World) (who : ℕ) (a : Act) → lent_to a ≡ Lent.nothing
@@ -61,9 +65,6 @@ region_kept_lem : (w : World) (c : Call) → lent_to c.act ≡ Lent.nothing → 
 unfolding step
 region_kept_lem w c e = kept_by (refusal w c) w c (effect_keeps w c.who c.act e)
 
-writes_same : {out out_after a b : List ℕ} {n : ℕ} → a ≡ b → Writes out out_after a n → Writes out out_after b n
-writes_same {out} {out_after} {a} {b} {n} e w = rw e at w
-
 replied_same : (n : ℕ) (a b : List ℕ) → (n ≡ 0 → a ≡ b) → replied n a ≡ replied n b
 unfolding replied
 replied_same n a b same = go (eqb n 0) refl
@@ -78,63 +79,70 @@ number_one [] e = absurd (omega arith)
 number_one (x ∷ []) e = omega arith
 number_one (x ∷ y ∷ l) e = absurd (omega arith)
 
-module _ (hub region out out_after : List ℕ) (c : Call) (n : ℕ) where
+module _ (hub region : List ℕ) (c : Call) where
   -- reads
-  pub reads_answer : (r : Reply) → reads_only c.act ≡ true → Promises.Answers hub c r → Writes out out_after (replied r.number (valued r.value)) n
-      → Answers hub hub region region out out_after (Request.reads c) n
+  pub reads_answer : (r : Result ℕ Refusal) → reads_only c.act ≡ true → Promises.Answers hub c (value_reply r)
+      → Answers hub hub region region (Request.reads c) (mapped Value r)
   unfolding answer
-  reads_answer r only a w =
-      let e = a region in
+  reads_answer r only a =
       record {
         left = sym (reads_keep_world (world (hub_of hub) region) c only).0;
-        written = writes_same (ap (λ (x : Reply). replied x.number (valued x.value)) e) w;
+        written = told_value (hub_of hub) r ∙ ap (λ (x : Reply). replied x.number (valued x.value)) (a region);
       }
 
   -- loads of one byte: only an accepted one's byte is written
-  pub loads_answer : (before after : List ℕ) (r : Reply) → reads_only c.act ≡ true → length after ≡ 1 → Loads hub region before after c r
-      → Writes out out_after (replied r.number (valued (get_or after 0 0))) n → Answers hub hub region region out out_after (Request.loads c) n
-  unfolding answer
-  loads_answer before after r only one l w =
+  pub loads_answer : (before after : List ℕ) (r : Result (Unit {0}) Refusal) (byte : ℕ) → reads_only c.act ≡ true → length after ≡ 1
+      → byte ≡ get_or after 0 0 → Loads hub region before after c (done_reply r)
+      → Answers hub hub region region (Request.loads c) (mapped (λ x. Value byte) r)
+  unfolding answer accepted_bytes
+  loads_answer before after r byte only one is l =
       let s = step (world (hub_of hub) region) c in
-      let e : replied r.number (valued (get_or after 0 0)) ≡ replied s.number (valued (number s.loaded)) =
-      replied_same r.number _ _ (λ z. ap valued (sym (number_one after one) ∙ ap number (l.filled z)))
+      let e : replied (done_reply r).number (valued byte) ≡ replied s.number (valued (number s.loaded)) =
+      replied_same (done_reply r).number _ _ (λ z. ap valued (is ∙ sym (number_one after one) ∙ ap number (l.filled z)))
       ∙ ap (λ (x : Reply). replied x.number (valued (number s.loaded))) l.reply in
-      record { left = sym (reads_keep_world (world (hub_of hub) region) c only).0; written = writes_same e w }
+      record {
+        left = sym (reads_keep_world (world (hub_of hub) region) c only).0;
+        written = told (λ x. Value byte) (valued byte) (hub_of hub) r (λ a. refl) ∙ e;
+      }
 
   -- stores to the caller's own registers
-  pub changes_answer : (after : List ℕ) (r : Reply) → lent_to c.act ≡ Lent.nothing → may_ring c.act ≡ false → Changes hub after c r
-      → Writes out out_after (replied r.number (done [])) n → Answers hub after region region out out_after (Request.does c) n
-  unfolding answer
-  changes_answer after r lent silent ch w =
+  pub changes_answer : (after : List ℕ) (r : Result (Unit {0}) Refusal) → lent_to c.act ≡ Lent.nothing → may_ring c.act ≡ false
+      → Changes hub after c (done_reply r) → Answers hub after region region (Request.does c) (mapped (λ x. Done) r)
+  unfolding answer accepted_bytes
+  changes_answer after r lent silent ch =
       let s = step (world (hub_of hub) region) c in
-      let e : replied r.number (done []) ≡ replied s.number (done s.deliveries) =
+      let e : replied (done_reply r).number (done []) ≡ replied s.number (done s.deliveries) =
       ap (λ (x : Reply). replied x.number (done [])) (ch.reply region)
       ∙ ap (λ (ds : List Delivery). replied s.number (done ds)) (sym (quiet (world (hub_of hub) region) c silent)) in
       record {
         left = ap (λ (h : Hub). world h region) (ch.hub region) ∙ ap (λ (g : List ℕ). world s.world.hub g)
             (sym (region_kept_lem (world (hub_of hub) region) c lent));
-        written = writes_same e w;
+        written = told (λ x. Done) (done []) (hub_of after) r (λ a. refl) ∙ e;
       }
 
   -- shared stores
-  pub stores_answer : (region_after : List ℕ) (r : Reply) → may_ring c.act ≡ false → Stores hub region region_after c r
-      → Writes out out_after (replied r.number (done [])) n → Answers hub hub region region_after out out_after (Request.does c) n
-  unfolding answer
-  stores_answer region_after r silent st w =
+  pub stores_answer : (region_after : List ℕ) (r : Result (Unit {0}) Refusal) → may_ring c.act ≡ false
+      → Stores hub region region_after c (done_reply r) → Answers hub hub region region_after (Request.does c) (mapped (λ x. Done) r)
+  unfolding answer accepted_bytes
+  stores_answer region_after r silent st =
       let s = step (world (hub_of hub) region) c in
-      let e : replied r.number (done []) ≡ replied s.number (done s.deliveries) =
+      let e : replied (done_reply r).number (done []) ≡ replied s.number (done s.deliveries) =
       ap (λ (x : Reply). replied x.number (done [])) st.reply ∙ ap (λ (ds : List Delivery). replied s.number (done ds))
       (sym (quiet (world (hub_of hub) region) c silent)) in
-      record { left = st.region; written = writes_same e w }
+      record { left = st.region; written = told (λ x. Done) (done []) (hub_of hub) r (λ a. refl) ∙ e }
 
   -- the calls that may ring, with a table for all peers
-  module _ (after region_after : List ℕ) (r : Served) (sv : Serves hub after region region_after c r) where
-    pub served_answer : Writes out out_after (replied r.reply.number (done (listed (hub_of after) r.list))) n
-        → Answers hub after region region_after out out_after (Request.does c) n
-    unfolding answer
-    served_answer w =
-        let s = step (world (hub_of hub) region) c in
-        let e : replied r.reply.number (done (listed (hub_of after) r.list)) ≡ replied s.number (done s.deliveries) =
-        ap (λ (x : Reply). replied x.number (done (listed (hub_of after) r.list))) sv.reply
-        ∙ ap (λ (ds : List Delivery). replied s.number (done ds)) sv.list.deliveries in
-        record { left = sv.left; written = writes_same e w }
+  pub served_answer : (after region_after : List ℕ) (r : Result Deliveries Refusal) → Serves hub after region region_after c r
+      → Answers hub after region region_after (Request.does c) (mapped Delivered r)
+  unfolding answer accepted_bytes outcome_bytes replied
+  served_answer after region_after r sv = record { left = sv.left; written = go r sv }
+    where
+      go : (r : Result Deliveries Refusal) → Serves hub after region region_after c r
+          → outcome_bytes (hub_of after) (mapped Delivered r)
+          ≡ replied (step (world (hub_of hub) region) c).number (done (step (world (hub_of hub) region) c).deliveries)
+      go (Ok list) sv =
+          ap done sv.list.deliveries
+          ∙ ap (λ (x : Reply). replied x.number (done (step (world (hub_of hub) region) c).deliveries)) sv.reply
+      go (Err e) sv =
+          refused e (done (step (world (hub_of hub) region) c).deliveries)
+          ∙ ap (λ (x : Reply). replied x.number (done (step (world (hub_of hub) region) c).deliveries)) sv.reply

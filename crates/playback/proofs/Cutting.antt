@@ -38,12 +38,11 @@ calls_are_feeding p now bytes written c = calls c
 
 pub calls_play : CallsPlay
 unfolding played answers
-calls_play log written hub region held out out_after p r c e z =
+calls_play log written hub region held out out_after p n c e =
     let f = calls c in
     let a : answers log ≡ written = ap (λ (x : Fed Player). x.written) f in
     let m : (fed_all fed fresh log).machine ≡ player_in hub region held p = ap (λ (x : Fed Player). x.machine) f in
-    let w = rw z at e.written in
-    rw (a, m, front w)
+    rw (a, m, front e.written)
 
 -- one byte of a record that has begun
 kind_first : (h bs : List ℕ) → 0 < length h → kind_of (h ++ bs) ≡ kind_of h

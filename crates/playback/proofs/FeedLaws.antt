@@ -1,19 +1,16 @@
 -- A piece, byte by byte: how far it has been fed, one byte more, and where it ends.
 use Prim.Native.Nat.{ℕ, suc, ◌+◌, ◌-◌, ◌≤◌, ◌<◌}
-use mathlib.Core.Bool.{Bool, true, false, ◌&&◌}
 use mathlib.Core.List.{List, [], ◌∷◌, ◌++◌, append-nil}
 use mathlib.Core.Path.{◌≡◌, refl, sym, ap, ◌∙◌}
 use native.Mathlib.Numerals.{add-one}
 use native.Mathlib.Omega.{arith}
-use lib.Dec.{leb, ltb}
 use lib.ListN.{length, take, drop, get_or, length-append, length-take, length-drop, drop_of_length-le}
 use lib.Seq.{take-suc, drop-cons}
-use borrow.Author.Tests.{lt-ltb, le-ltb, leb-false, ltb-false, leb-true, ltb-true}
+use borrow.Author.Tests.{lt-ltb, le-ltb}
 use borrow.Rule.Slice.PartMut.{put_mid}
 use Rattle.common.specs.Streams.{fed_to, fed_all}
 use Rattle.playback.proofs.OverLaws.{length_over, nothing_over, over_then}
 use Rattle.common.proofs.StreamLaws.{fed_append}
-use Rattle.common.proofs.TestLaws.{and_left, and_right}
 use Rattle.playback.specs.declared.Progress.{Progress}
 use Rattle.playback.specs.Answers.{longest}
 use Rattle.playback.specs.Player.{Player, fed}
@@ -56,25 +53,9 @@ unfolding taken_within
 taken_full room p [] h = refl
 taken_full room p (b ∷ bs) h = rw (lt-ltb room longest h)
 
--- what holds where a turn of the loop begins: there is a byte to feed, and room for its answer
-pub record Turn (piece out₀ out : List ℕ) (i at : ℕ) : Type 0 where
-  pub byte : i < length piece
-  pub room : at + longest ≤ length out₀
-  pub same : length out ≡ length out₀
-
 module _ (p₀ : Player) (hub region held piece out₀ out : List ℕ) (p : Progress) (i at : ℕ) (s : FedSoFar p₀ hub region held piece out₀ out p i at) where
   pub same_room : length out ≡ length out₀
   same_room = ap length s.goes.written.bytes ∙ length_over _ out₀ (rw (← s.goes.written.count) s.goes.written.fits)
-
-  pub turn_begins : (last : ℕ) → last ≡ longest → longest ≤ length out₀ →
-      (ltb i (length piece) && leb at (length out₀ - last)) ≡ true → Turn piece out₀ out i at
-  turn_begins last long room e =
-      let fits : at ≤ length out₀ - last = leb-true _ _ (and_right (ltb i (length piece)) (leb at (length out₀ - last)) e) in
-      record {
-        byte = ltb-true _ _ (and_left (ltb i (length piece)) (leb at (length out₀ - last)) e);
-        room = omega arith;
-        same = same_room;
-      }
 
   pub fed_more : (hub_after region_after held_after rest : List ℕ) (next : Progress) (n : ℕ) → i < length piece → longest ≤ length out₀ - at
       → Goes hub_after region_after held_after (take (length out - at) (drop at out)) rest next n (fed (player_in hub region held p) (get_or piece i 0))
@@ -110,13 +91,16 @@ module _ (p₀ : Player) (hub region held piece out₀ out : List ℕ) (p : Prog
         left = s.left ∙ rw more (omega arith);
       }
 
-  pub fed_end : (last : ℕ) → last ≡ length out₀ - longest → (ltb i (length piece) && leb at last) ≡ false → i ≡ taken_within (length out₀) p₀ piece
-  fed_end last e stop = sym (s.left ∙ go (ltb i (length piece)) refl)
-    where
-      go : (t : Bool) → ltb i (length piece) ≡ t → i + taken_within (length out₀ - at) (player_in hub region held p) (drop i piece) ≡ i
-      go true t =
-          let late : last < at = leb-false at last (rw t at stop) in
-          rw (taken_full (length out₀ - at) (player_in hub region held p) (drop i piece) (omega (arith, s.goes.written.fits))) (omega arith)
-      go false t =
-          let none : drop i piece ≡ [] = drop_of_length-le piece {i = i} (ltb-false i (length piece) t) in
-          rw (none, taken_none (length out₀ - at) (player_in hub region held p)) (omega arith)
+  -- no room is left for the longest answer
+  pub fed_full : length out₀ - longest < at → i ≡ taken_within (length out₀) p₀ piece
+  fed_full late =
+      sym (
+      s.left
+      ∙ rw (taken_full (length out₀ - at) (player_in hub region held p) (drop i piece) (omega (arith, s.goes.written.fits))) (omega arith)
+      )
+
+  -- the whole piece is fed
+  pub fed_whole : length piece ≡ i → length piece ≡ taken_within (length out₀) p₀ piece
+  fed_whole e =
+      let none : drop i piece ≡ [] = drop_of_length-le piece {i = i} (omega arith) in
+      sym (s.left ∙ rw (none, taken_none (length out₀ - at) (player_in hub region held p)) (omega arith))

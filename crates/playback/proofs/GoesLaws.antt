@@ -12,10 +12,11 @@ use Rattle.playback.proofs.LentLaws.{lent_back}
 use Rattle.playback.proofs.OverLaws.{nothing_over}
 use Rattle.playback.proofs.RecordLaws.{record_short}
 use Rattle.playback.specs.declared.Progress.{Progress}
-use Rattle.playback.specs.Answers.{answer}
+use Rattle.playback.specs.Answers.{Outcome, answer, outcome_bytes}
 use Rattle.playback.specs.Log.{Request, kind_of, longest_record, record_length, request_of}
 use Rattle.playback.specs.Player.{player, after, fed}
 use Rattle.playback.specs.Promises.{Answers, Goes, Lent, Writes, world_in, player_in}
+use Rattle.words.specs.Layout.{hub_of}
 
 -- nothing is held
 abbrev pub in_use : (words bytes : ℕ) → Bool → Progress
@@ -28,16 +29,18 @@ module _ (hub region held out out_after : List ℕ) (words bytes n : ℕ) where
   unknown_goes lent w = record { player = refl; written = w; lent = lent }
 
   -- the parts in use were lent to a call, and came back
-  pub call_goes : (hub_after region_after : List ℕ) (q : Request) → (answer (world_in hub region words bytes) q).stops ≡ false
+  pub call_goes : (hub_after region_after : List ℕ) (q : Request) (o : Outcome) → (answer (world_in hub region words bytes) q).stops ≡ false
       → Lent hub region held (in_use words bytes false) → length hub_after ≡ words → length region_after ≡ bytes
-      → Answers (take words hub) hub_after (take bytes region) region_after out out_after q n
+      → Answers (take words hub) hub_after (take bytes region) region_after q o
+      → Writes out out_after (outcome_bytes (hub_of (take words (hub_after ++ drop words hub))) o) n
       → Goes (hub_after ++ drop words hub) (region_after ++ drop bytes region) held out out_after (in_use words bytes false) n
       (after (answer (world_in hub region words bytes) q))
-  call_goes hub_after region_after q on lent nh nr a =
+  call_goes hub_after region_after q o on lent nh nr a w =
+      let same = take_at hub_after (drop words hub) words nh in
       record {
-        player = rw (take_at hub_after (drop words hub) words nh, take_at region_after (drop bytes region) bytes nr, on)
+        player = rw (same, take_at region_after (drop bytes region) bytes nr, on)
             (ap (λ (w : World). player w [] false) a.left);
-        written = a.written;
+        written = rw (same, a.written) at w;
         lent = lent_back hub region held _ hub_after region_after nh nr lent;
       }
 
@@ -56,7 +59,7 @@ module _ (hub region held out : List ℕ) (p : Progress) (byte : ℕ) (lent : Le
   more = set held p.held byte
 
   abbrev pub longer : Progress
-  longer = record { words = p.words; bytes = p.bytes; held = p.held + 1; stopped = false }
+  longer = record { words = p.words; bytes = p.bytes; held = p.held + 1; stopped = p.stopped }
 
   pub held_goes : p.stopped ≡ false → p.held + 1 < record_length (get_or more 0 0) → Goes hub region more out out longer 0
       (fed (player_in hub region held p) byte)
@@ -79,7 +82,7 @@ module _ (hub region held out : List ℕ) (p : Progress) (byte : ℕ) (lent : Le
 
   pub answered_goes : (hub_after region_after out_after : List ℕ) (next : Progress) (n : ℕ) → p.stopped ≡ false → record_length (get_or more 0 0) ≤ p.held + 1
       → ((h : List ℕ) → length h ≡ longest_record → Goes hub_after region_after h out out_after next n
-      (after (answer (world_in hub region p.words p.bytes) (request_of (kind_of (take (p.held + 1) more)) (take (p.held + 1) more)))))
+      (after (answer (world_in hub region p.words p.bytes) (request_of (kind_of more) more))))
       → Goes hub_after region_after more out out_after next n (fed (player_in hub region held p) byte)
   answered_goes hub_after region_after out_after next n e l g =
       rw (e, byte_answered (world_in hub region p.words p.bytes) held p.held byte lent.few l) (g more (simp length-set lent.held_length))

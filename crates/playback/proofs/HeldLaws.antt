@@ -11,6 +11,7 @@ use borrow.Author.Tests.{le-leb, lt-leb}
 use Rattle.common.specs.Streams.{fed_to}
 use Rattle.device.specs.World.{World}
 use Rattle.playback.specs.Answers.{answer}
+use Rattle.playback.proofs.RecordLaws.{request_front}
 use Rattle.playback.specs.Log.{kind_of, record_length, request_of, whole}
 use Rattle.playback.specs.Player.{player, after, come, fed}
 
@@ -34,13 +35,10 @@ module _ (w : World) (held : List ℕ) (at byte : ℕ) (h : at < length held) wh
   byte_held l = rw (joined, kind, long, lt-leb _ _ l)
 
   pub byte_answered : record_length (get_or (set held at byte) 0 0) ≤ at + 1
-      → fed (player w (take at held) false) byte ≡ after (answer w (request_of (kind_of now) now))
-  unfolding fed come whole
-  byte_answered l = rw joined (rw (kind, long, le-leb _ _ l))
-
-  -- a whole record has all its bytes
-  pub record_whole : record_length (get_or (set held at byte) 0 0) ≤ at + 1 → record_length (kind_of now) ≤ length now
-  record_whole l = rw (kind, long) l
+      → fed (player w (take at held) false) byte ≡ after (answer w (request_of (kind_of (set held at byte)) (set held at byte)))
+  unfolding fed come whole kind_of
+  byte_answered l =
+      rw joined (rw (kind, long, le-leb _ _ l, request_front (at + 1) (set held at byte) (get_or (set held at byte) 0 0) l))
 
 pub byte_ignored : (w : World) (held : List ℕ) (byte : ℕ) → fed (player w held true) byte ≡ fed_to (player w held true) []
 unfolding fed

@@ -1,6 +1,6 @@
 -- The refusals of a piece.
 use Prim.Native.Nat.{ℕ, ◌≤◌}
-use mathlib.Core.Bool.{true, false, not, ◌&&◌}
+use mathlib.Core.Bool.{Bool, true, false, not, ◌&&◌, ◌||◌}
 use mathlib.Core.List.{List, ◌++◌}
 use mathlib.Core.Path.{◌≡◌}
 use native.Mathlib.Omega.{arith}
@@ -58,3 +58,8 @@ module _ (hub region held : List ℕ) (p : Progress) where
         bytes = simp (length-append, length-drop) (omega (arith, lent.bytes));
         few = lent.few;
       }
+
+pub not_inside : (a b t : Bool) → (a || b) ≡ t → (not a && not b) ≡ not t
+not_inside true b t e = rw (← e)
+not_inside false true t e = rw (← e)
+not_inside false false t e = rw (← e)

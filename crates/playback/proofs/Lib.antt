@@ -7,6 +7,7 @@ pub mod FieldLaws
 pub mod GoesLaws
 pub mod HeldLaws
 pub mod LentLaws
+pub mod OutcomeLaws
 pub mod OverLaws
 pub mod RecordLaws
 pub mod SetUpLaws

@@ -20,10 +20,15 @@ use Rattle.device.specs.Sizes.{max_peers, max_vectors}
 use Rattle.device.specs.World.{World, zero_hub}
 use Rattle.playback.proofs.LentLaws.{lent_back}
 use Rattle.playback.specs.declared.Progress.{Progress}
-use Rattle.playback.specs.Answers.{answer, done, max_total, refused_by, replied, set_up_number}
+use Rattle.playback.specs.declared.answers.Accepted.TheVariants.{Done}
+use Rattle.playback.specs.Answers.{Outcome, answer, max_total, outcome_bytes, refused_by, replied, set_up_number}
 use Rattle.playback.specs.Log.{Request}
-use Rattle.playback.specs.Player.{after}
+use Rattle.common.specs.Streams.{Fed}
+use Rattle.playback.specs.Player.{Player, after}
 use Rattle.playback.specs.Promises.{Goes, Lent, Writes}
+use Rattle.std.specs.Prelude.{IfOk}
+use Rattle.hub.specs.Answered.{done_reply}
+use Rattle.playback.proofs.OutcomeLaws.{done_bytes}
 use Rattle.words.specs.Layout.{fits, hub_of, hub_words}
 
 pub not_accepted : (s : Settings) → accepted s ≡ false → set_up_number s ≡ 1
@@ -59,6 +64,15 @@ empty_hub = rw (every_false (leb 0 max_peers ∷ leb 0 max_vectors ∷ eqb 0 10 
 unfoldable pub without : Progress
 without = record { words = 0; bytes = 0; held = 0; stopped = false }
 
+-- nothing held, going on
+pub in_use_is : (p : Progress) → p.held ≡ 0 → p.stopped ≡ false → p ≡ record { words = p.words; bytes = p.bytes; held = 0; stopped = false }
+in_use_is p h s =
+    ap (λ (n : ℕ). record p { held = n }) h ∙ ap (λ (b : Bool). record p { held = 0; stopped = b }) s
+
+pub goes_same : {hub region held out out_after : List ℕ} {p q : Progress} {n : ℕ} {f : Fed Player} → p ≡ q
+    → Goes hub region held out out_after q n f → Goes hub region held out out_after p n f
+goes_same e g = rw e g
+
 module _ (hub region held out out_after : List ℕ) (s : Settings) (w : World) (n : ℕ) where
   -- a refused set-up leaves no hub
   pub refused_goes : Lent hub region held without → set_up_number s ≡ 1 → Writes out out_after (refused_by 1) n
@@ -67,24 +81,25 @@ module _ (hub region held out out_after : List ℕ) (s : Settings) (w : World) (
   refused_goes lent e ws = record { player = rw (e, empty_hub); written = rw e ws; lent = lent }
 
   -- an accepted one leaves a fresh hub in as many words, and a zero region in as many bytes, as it asks for
-  pub taken_goes : (words bytes : ℕ) (hub_after region_after : List ℕ) (r : Reply) → (accepted s ≡ true) × (total s ≤ max_total)
+  pub taken_goes : (words bytes : ℕ) (hub_after region_after : List ℕ) (o : Outcome) → (accepted s ≡ true) × (total s ≤ max_total)
       → words ≡ hub_words s.peers s.vectors → bytes ≡ total s
       → Lent hub region held (record { words = words; bytes = bytes; held = 0; stopped = false })
       → length hub_after ≡ words → length region_after ≡ bytes
-      → SetsUp (take words hub) hub_after (take bytes region) region_after s r → Writes out out_after (replied r.number (done [])) n
+      → SetsUp (take words hub) hub_after (take bytes region) region_after s (done_reply o) → IfOk o (λ a. a ≡ Done)
+      → Writes out out_after (outcome_bytes (hub_of (hub_after ++ drop words hub)) o) n
       → Goes (hub_after ++ drop words hub) (region_after ++ drop bytes region) held out out_after
       (record { words = words; bytes = bytes; held = 0; stopped = false }) n (after (answer w (Request.set_up s)))
-  unfolding answer start
-  taken_goes words bytes hub_after region_after r ok ew eb lent nh nr sv ws =
+  unfolding answer replied start
+  taken_goes words bytes hub_after region_after o ok ew eb lent nh nr sv is ws =
       let room : length (take words hub) ≡ hub_words s.peers s.vectors = length-take-le words hub lent.words ∙ ew in
       let all : length (take bytes region) ≡ total s = length-take-le bytes region lent.bytes ∙ eb in
-      let number : r.number ≡ 0 = ap (λ (x : Reply). x.number) sv.reply ∙ rw (eq-eqb _ _ room) (no_refusal s (take bytes region) ok.0 all) in
+      let number : (done_reply o).number ≡ 0 = ap (λ (x : Reply). x.number) sv.reply ∙ rw (eq-eqb _ _ room) (no_refusal s (take bytes region) ok.0 all) in
       let e : set_up_number s ≡ 0 = taken s ok.0 (le-leb _ _ ok.1) in
       let h : hub_of (take words (hub_after ++ drop words hub)) ≡ fresh_hub s = rw (take_at hub_after (drop words hub) words nh) (sv.hub ∙ rw number) in
       let g : take bytes (region_after ++ drop bytes region) ≡ replicate (total s) 0 =
       rw (take_at region_after (drop bytes region) bytes nr) (sv.region ∙ rw (number, all)) in
       record {
         player = rw (h, g, e);
-        written = rw (e, ← number) ws;
+        written = rw e (rw (done_bytes (hub_of (hub_after ++ drop words hub)) o number is) at ws);
         lent = lent_back hub region held _ hub_after region_after nh nr lent;
       }

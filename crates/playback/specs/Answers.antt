@@ -1,5 +1,5 @@
 -- C-13: what a record is answered by, in bytes, and the world that it leaves.
-use Rattle.std.specs.Prelude.{ℕ, ◌+◌, ◌*◌, Bool, true, false, cond, List, [], ◌∷◌, ◌++◌, eqb, leb, replicate}
+use Rattle.std.specs.Prelude.{ℕ, ◌+◌, ◌*◌, Bool, true, false, cond, List, [], ◌∷◌, ◌++◌, eqb, leb, replicate, Result, Ok, Err}
 use Rattle.common.specs.Bytes.{bytes, number}
 use Rattle.device.specs.declared.Delivery.{Delivery}
 use Rattle.device.specs.declared.Settings.{Settings}
@@ -7,7 +7,12 @@ use Rattle.device.specs.History.{start}
 use Rattle.device.specs.SetUp.{total, set_up_refusal}
 use Rattle.device.specs.Sizes.{max_peers}
 use Rattle.device.specs.Step.{step}
-use Rattle.device.specs.World.{World, world, zero_hub}
+use Rattle.device.specs.World.{Hub, World, world, zero_hub}
+use Rattle.deliveries.specs.Listed.{listed}
+use Rattle.hub.specs.declared.reasons.Refusal.{Refusal}
+use Rattle.hub.specs.Answered.{number_of}
+use Rattle.playback.specs.declared.answers.Accepted.{Accepted}
+use Rattle.playback.specs.declared.answers.Accepted.TheVariants.{Done, Delivered, Value}
 use Rattle.playback.specs.Log.{Request}
 
 -- R77: after 83h, 'target 2, vector 2, address 8, data 4'
@@ -33,6 +38,19 @@ valued value = 0x82 ∷ bytes 4 value
 
 unfoldable pub replied : (number : ℕ) → (accepted : List ℕ) → List ℕ
 replied number accepted = cond (eqb number 0) accepted (refused_by number)
+
+-- what is written for a call: for one that is accepted as its answer is, with records made from the hub that it leaves
+unfoldable pub accepted_bytes : Hub → Accepted → List ℕ
+accepted_bytes hub Done = done []
+accepted_bytes hub (Delivered list) = done (listed hub list)
+accepted_bytes hub (Value x) = valued x
+
+abbrev pub Outcome : Type 0
+Outcome = Result Accepted Refusal
+
+unfoldable pub outcome_bytes : Hub → Outcome → List ℕ
+outcome_bytes hub (Ok answer) = accepted_bytes hub answer
+outcome_bytes hub (Err refusal) = refused_by (number_of refusal)
 
 -- no answer is longer: done, and a delivery to each peer
 abbrev pub longest : ℕ

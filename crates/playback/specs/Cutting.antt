@@ -1,5 +1,5 @@
 -- R80: cutting a log into pieces changes nothing of what is written; and what the byte-by-byte definition says of whole records.
-use Rattle.std.specs.Prelude.{ℕ, ◌<◌, false, true, List, [], ◌∷◌, ◌++◌, ◌≡◌, length, take}
+use Rattle.std.specs.Prelude.{ℕ, ◌<◌, false, true, List, [], ◌∷◌, ◌++◌, ◌≡◌, length, take, Ok}
 use Rattle.common.specs.Streams.{fed_to, fed_all, fed_pieces, joined}
 use Rattle.device.specs.World.{World}
 use Rattle.playback.specs.declared.Progress.{Progress}
@@ -32,8 +32,8 @@ CallsAreFeeding = (p now : Player) (bytes written : List ℕ) → Calls p bytes 
 -- From the start to the end of the input: what calls of `feed` wrote, with what `finish` writes, is what the log is played as.
 abbrev pub CallsPlay : Type 0
 CallsPlay =
-    (log written hub region held out out_after : List ℕ) (p : Progress) (r : Report) → Calls fresh log written (player_in hub region held p)
-    → Ends hub region held out out_after p r → r.number ≡ 0 → written ++ take r.written out_after ≡ played log
+    (log written hub region held out out_after : List ℕ) (p : Progress) (n : ℕ) → Calls fresh log written (player_in hub region held p)
+    → Ends hub region held out out_after p (Ok n) → written ++ take n out_after ≡ played log
 
 -- A whole record, fed where none has begun, is answered.
 abbrev pub RecordsAreAnswered : Type 0

@@ -1,3 +1,4 @@
+pub mod Kinds
 pub mod Log
 pub mod Answers
 pub mod Player

@@ -1,14 +1,16 @@
 -- What the player's functions promise: the memory that they are lent, with the progress, is a player, and goes on as the definition
 -- of one byte says.
-use Rattle.std.specs.Prelude.{ℕ, suc, ◌-◌, ◌≤◌, ◌<◌, Bool, cond, not, List, [], ◌∷◌, ◌≡◌, eqb, leb, ltb, length, take}
+use Rattle.std.specs.Prelude.{ℕ, suc, ◌-◌, ◌≤◌, ◌<◌, Bool, cond, not, List, [], ◌∷◌, ◌≡◌, eqb, leb, ltb, length, take, Result, Ok, Err, MatchResult}
 use Rattle.common.specs.Lists.{over}
 use Rattle.common.specs.Streams.{Fed, fed_all}
 use Rattle.common.specs.Tests.{every, row, first}
 use Rattle.device.specs.Sizes.{max_peers, max_vectors}
 use Rattle.device.specs.World.{World, world}
 use Rattle.playback.specs.declared.Progress.{Progress}
+use Rattle.playback.specs.declared.Refusal.{Refusal}
+use Rattle.playback.specs.declared.Refusal.TheVariants.{OtherMemory, ShortBuffer}
 use Rattle.playback.specs.declared.Report.{Report}
-use Rattle.playback.specs.Answers.{answer, longest, max_total}
+use Rattle.playback.specs.Answers.{Outcome, answer, longest, max_total, outcome_bytes}
 use Rattle.playback.specs.Log.{Request, longest_record}
 use Rattle.playback.specs.Player.{Player, player, fed, ending}
 use Rattle.words.specs.Layout.{hub_words, hub_of}
@@ -51,10 +53,10 @@ pub record Writes (before after written : List ℕ) (n : ℕ) : Type 0 where
   pub count : n ≡ length written
   pub fits : n ≤ length before
 
--- A request, on the hub and the region in use.
-pub record Answers (hub after region region_after out out_after : List ℕ) (q : Request) (n : ℕ) : Type 0 where
+-- A call, on the hub and the region in use: what it leaves, and what is to be written for it.
+pub record Answers (hub after region region_after : List ℕ) (q : Request) (r : Outcome) : Type 0 where
   pub left : world (hub_of after) region_after ≡ (answer (world (hub_of hub) region) q).world
-  pub written : Writes out out_after (answer (world (hub_of hub) region) q).written n
+  pub written : outcome_bytes (hub_of after) r ≡ (answer (world (hub_of hub) region) q).written
 
 -- What is fed leaves this player and is answered by these bytes; the memory is still lent with the new progress.
 pub record Goes (hub region held out out_after : List ℕ) (p : Progress) (n : ℕ) (f : Fed Player) : Type 0 where
@@ -70,7 +72,6 @@ taken_within room p (b ∷ bs) =
 
 -- A piece fed to a player, as far as it is taken.
 pub record Feeds (p : Player) (hub region held piece out out_after : List ℕ) (r : Report) : Type 0 where
-  pub number : r.number ≡ 0
   pub taken : r.taken ≡ taken_within (length out) p piece
   pub goes : Goes hub region held out out_after r.progress r.written (fed_all fed p (take r.taken piece))
 
@@ -80,19 +81,24 @@ unfoldable pub refusal_of : (hub region held : List ℕ) → Progress → (room 
 refusal_of hub region held p room =
     first (row 10 (not (is_lent hub region held p)) ∷ row 11 (ltb room longest) ∷ [])
 
+-- a refusal's number
+abbrev pub refusal_number : Refusal → ℕ
+refusal_number OtherMemory = 10
+refusal_number ShortBuffer = 11
+
+-- the number that a call is refused by; 0 where it is not
+abbrev pub refusal_in : {T : Type 0} → Result T Refusal → ℕ
+refusal_in (Ok x) = 0
+refusal_in (Err e) = refusal_number e
+
 -- A refused piece changes nothing.
-pub record Refuses (hub after region region_after held held_after out out_after : List ℕ) (p : Progress) (r : Report) : Type 0 where
+pub record Refuses (hub after region region_after held held_after out out_after : List ℕ) : Type 0 where
   pub hub_kept : after ≡ hub
   pub region_kept : region_after ≡ region
   pub held_kept : held_after ≡ held
   pub out_kept : out_after ≡ out
-  pub progress : r.progress ≡ p
-  pub taken : r.taken ≡ 0
-  pub written : r.written ≡ 0
 
--- The end of the input: what a player writes there, and nothing where it is refused.
-pub record Ends (hub region held out out_after : List ℕ) (p : Progress) (r : Report) : Type 0 where
-  pub number : r.number ≡ refusal_of hub region held p (length out)
-  pub progress : r.progress ≡ p
-  pub taken : r.taken ≡ 0
-  pub written : Writes out out_after (cond (eqb r.number 0) (ending (player_in hub region held p)) []) r.written
+-- The end of the input: how many bytes a player writes there, and nothing where it is refused.
+pub record Ends (hub region held out out_after : List ℕ) (p : Progress) (r : Result ℕ Refusal) : Type 0 where
+  pub number : refusal_in r ≡ refusal_of hub region held p (length out)
+  pub written : MatchResult r (Writes out out_after (ending (player_in hub region held p))) (λ e. out_after ≡ out)

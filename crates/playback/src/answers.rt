@@ -1,108 +1,107 @@
-// The answers, written to the front of a buffer. Each function returns the bytes written.
-ghost use Rattle.std.specs.Prelude.{◌≡◌, ◌+◌, ◌*◌, ◌≤◌, length, [], ◌++◌};
-ghost use Rattle.common.specs.Bytes.{bytes};
+// What calls are answered by, and the answers, written to the front of a buffer. Each function that writes one returns its bytes.
+ghost use Rattle.std.specs.Prelude.{◌≡◌, ◌+◌, ◌*◌, ◌≤◌, length, [], map, take};
 ghost use Rattle.common.specs.Lists.{over};
-ghost use Rattle.device.specs.Sizes.{max_peers};
 ghost use Rattle.words.specs.Layout.{hub_of};
 ghost use Rattle.deliveries.specs.Listed.{listed};
+ghost use Rattle.gate.specs.RingOutcome.{sent_at};
 ghost use Rattle.playback.specs.Answers;
-ghost use Rattle.playback.specs.Answers.{longest, refused_by, replied, valued, parts, delivered, all_delivered};
+ghost use Rattle.playback.specs.Answers.{accepted_bytes, longest, outcome_bytes, refused_by, valued, delivered, all_delivered};
 ghost use Rattle.playback.specs.Promises.{Writes};
 
-use super::numbers;
 use deliveries::Deliveries;
-use device::Delivery;
+use device::{Delivery, Vector};
+use hub::Refusal;
 
-pub fn refused(out: &mut [u8], number: u32) -> usize
+// What an accepted call is answered by.
+#[derive(Clone, Copy)]
+pub enum Accepted {
+    Done,
+    Delivered(Deliveries),
+    Value(u32),
+}
+
+fn put(out: &mut [u8], bytes: &[u8])
+    requires { length bytes.now ≤ length out.old }
+    ensures { out.new ≡ over bytes.now out.old }
+{
+    out[..bytes.len()].copy_from_slice(bytes);
+}
+
+fn refused(out: &mut [u8], number: u32) -> usize
     requires { 2 ≤ length out.old }
     ensures { Writes out.old out.new (refused_by number) result }
 {
-    out[0] = 0x80;
-    out[1] = (number % 256) as u8;
+    put(out, &[0x80, (number % 256) as u8]);
     2
 }
 
-pub fn done(out: &mut [u8], number: u32) -> usize
-    requires { 2 ≤ length out.old }
-    ensures { Writes out.old out.new (replied number (Answers.done [])) result }
+fn done(out: &mut [u8]) -> usize
+    requires { 1 ≤ length out.old }
+    ensures { Writes out.old out.new (Answers.done []) result }
 {
-    if number != 0 {
-        return refused(out, number);
-    }
-    numbers::put_one(out, 0x81);
+    put(out, &[0x81]);
     1
 }
 
-pub fn value(out: &mut [u8], number: u32, x: u32) -> usize
+fn value(out: &mut [u8], x: u32) -> usize
     requires { 5 ≤ length out.old }
-    ensures { Writes out.old out.new (replied number (valued x)) result }
+    ensures { Writes out.old out.new (valued x) result }
 {
-    if number != 0 {
-        return refused(out, number);
-    }
-    numbers::put_one(out, 0x82);
-    numbers::put_four(&mut out[1..], x);
+    put(out, &[0x82]);
+    put(&mut out[1..], &x.to_le_bytes());
     5
-}
-
-// The parts of a delivery, behind its first byte.
-fn put_ids(out: &mut [u8], target: u16, vector: u16)
-    requires { 4 ≤ length out.old }
-    ensures { out.new ≡ over (bytes 2 target ++ bytes 2 vector) out.old }
-{
-    numbers::put_two(out, target);
-    numbers::put_two(&mut out[2..], vector);
-}
-
-fn put_message(out: &mut [u8], address: u64, payload: u32)
-    requires { 12 ≤ length out.old }
-    ensures { out.new ≡ over (bytes 8 address ++ bytes 4 payload) out.old }
-{
-    numbers::put_eight(out, address);
-    numbers::put_four(&mut out[8..], payload);
-}
-
-fn put_parts(out: &mut [u8], d: Delivery)
-    requires { 16 ≤ length out.old }
-    ensures { out.new ≡ over (parts d) out.old }
-{
-    put_ids(out, d.target.0, d.vector.0);
-    put_message(&mut out[4..], d.address, d.payload);
 }
 
 fn put_delivery(out: &mut [u8], d: Delivery)
     requires { 17 ≤ length out.old }
     ensures { out.new ≡ over (delivered d) out.old }
 {
-    numbers::put_one(out, 0x83);
-    put_parts(&mut out[1..], d);
+    put(out, &[0x83]);
+    put(&mut out[1..], &d.target.0.to_le_bytes());
+    put(&mut out[3..], &d.vector.0.to_le_bytes());
+    put(&mut out[5..], &d.address.to_le_bytes());
+    put(&mut out[13..], &d.payload.to_le_bytes());
 }
 
-fn put_deliveries(hub: &[u32], list: Deliveries, out: &mut [u8])
-    requires { (list.count ≤ length list.targets) × (list.count ≤ max_peers) × (17 * list.count ≤ length out.old) }
-    ensures { out.new ≡ over (all_delivered (listed (hub_of hub.now) list)) out.old }
+fn put_deliveries(hub: &[u32], ids: &[u8], v: Vector, out: &mut [u8])
+    requires { 17 * length ids.now ≤ length out.old }
+    ensures { out.new ≡ over (all_delivered (map (sent_at (hub_of hub.now) v) ids.now)) out.old }
 {
-    let n = list.count;
-    let v = list.vector;
-    let targets = list.targets;
-    let mut i: usize = 0;
-    let mut at: usize = 0;
-    while i < n {
-        put_delivery(&mut out[at..], deliveries::sent(hub, targets[i], v));
-        at += 17;
-        i += 1;
+    for (i, id) in ids.iter().enumerate() {
+        put_delivery(&mut out[17 * i..], deliveries::sent(hub, *id, v));
     }
 }
 
 // Done, and each delivery.
-pub fn served(hub: &[u32], number: u32, list: Deliveries, out: &mut [u8]) -> usize
-    requires { (list.count ≤ length list.targets) × (list.count ≤ max_peers) × (longest ≤ length out.old) }
-    ensures { Writes out.old out.new (replied number (Answers.done (listed (hub_of hub.now) list))) result }
+fn served(hub: &[u32], list: Deliveries, out: &mut [u8]) -> usize
+    requires { longest ≤ length out.old }
+    ensures { Writes out.old out.new (Answers.done (listed (hub_of hub.now) list)) result }
 {
-    if number != 0 {
-        return refused(out, number);
+    let targets = list.targets;
+    let ids = &targets[..list.count.min(device::MAX_PEERS)];
+    put(out, &[0x81]);
+    put_deliveries(hub, ids, list.vector, &mut out[1..]);
+    1 + 17 * ids.len()
+}
+
+fn write_accepted(hub: &[u32], answer: Accepted, out: &mut [u8]) -> usize
+    requires { longest ≤ length out.old }
+    ensures { Writes out.old out.new (accepted_bytes (hub_of hub.now) answer) result }
+{
+    match answer {
+        Accepted::Done => done(out),
+        Accepted::Delivered(list) => served(hub, list, out),
+        Accepted::Value(x) => value(out, x),
     }
-    numbers::put_one(out, 0x81);
-    put_deliveries(hub, list, &mut out[1..]);
-    1 + 17 * list.count
+}
+
+// A call's answer, on the hub as it is after the call.
+pub fn write(hub: &[u32], outcome: Result<Accepted, Refusal>, out: &mut [u8]) -> usize
+    requires { longest ≤ length out.old }
+    ensures { Writes out.old out.new (outcome_bytes (hub_of hub.now) outcome) result }
+{
+    match outcome {
+        Ok(answer) => write_accepted(hub, answer, out),
+        Err(refusal) => refused(out, refusal.number()),
+    }
 }

@@ -4,13 +4,18 @@
 
 mod answers;
 mod calls;
-mod numbers;
+mod fields;
+mod kinds;
 mod records;
 
-ghost use Rattle.std.specs.Prelude.{◌≡◌, ℕ, ◌≤◌, List, length};
+ghost use Rattle.std.specs.Prelude.{◌≡◌, ℕ, ◌≤◌, false, List, length, IfOk, OnOk, OnErr};
 ghost use Rattle.playback.specs.Answers.{longest};
 ghost use Rattle.playback.specs.Player.{fed, fresh};
-ghost use Rattle.playback.specs.Promises.{Lent, Goes, Feeds, Refuses, Ends, player_in, is_lent, refusal_of};
+ghost use Rattle.playback.specs.Promises.{Lent, Goes, Feeds, Refuses, Ends, player_in, is_lent, refusal_of, refusal_number, refusal_in};
+
+use fields::Fields;
+use std::error::Error;
+use std::fmt;
 
 // Where a player stands, beside what its lent memory holds.
 #[derive(Clone, Copy)]
@@ -24,15 +29,55 @@ pub struct Progress {
     pub stopped: bool,
 }
 
-// The answer to a piece: a refusal's number or 0, the progress, the bytes taken of the piece, and the bytes written to the front of
-// the buffer.
+impl Progress {
+    // Nothing held, no hub: whatever the lent memory holds.
+    pub fn start() -> Progress
+        ensures fresh { (hub region held : List ℕ) → player_in hub region held result ≡ fresh }
+        ensures zero { result ≡ record { words = 0; bytes = 0; held = 0; stopped = false } }
+    {
+        Progress {
+            words: 0,
+            bytes: 0,
+            held: 0,
+            stopped: false,
+        }
+    }
+}
+
+// The answer to a piece: the progress, the bytes taken of the piece, and the bytes written to the front of the buffer.
 #[derive(Clone, Copy)]
 pub struct Report {
-    pub number: u32,
     pub progress: Progress,
     pub taken: usize,
     pub written: usize,
 }
+
+// Why nothing is taken.
+#[derive(Clone, Copy, Debug, PartialEq, Eq)]
+pub enum Refusal {
+    OtherMemory = 10,
+    ShortBuffer = 11,
+}
+
+impl Refusal {
+    pub fn number(self) -> u32
+        ensures { result ≡ refusal_number self }
+    {
+        self as u32
+    }
+}
+
+impl fmt::Display for Refusal {
+    fn fmt<W: fmt::Write>(&self, f: &mut fmt::Formatter<W>) -> fmt::Result {
+        f.write_str(match self {
+            Refusal::OtherMemory =>
+                "the lent memory has other lengths, or the progress does not lie within it",
+            Refusal::ShortBuffer => "the buffer has no room for the longest answer",
+        })
+    }
+}
+
+impl Error for Refusal {}
 
 // What one byte leaves.
 #[derive(Clone, Copy)]
@@ -45,18 +90,6 @@ struct Taken {
 pub const RECORD_BYTES: usize = 39;
 
 pub const REGION_BYTES: usize = 32768;
-
-// Nothing held, no hub: whatever the lent memory holds.
-pub fn start() -> Progress
-    ensures { (hub region held : List ℕ) → player_in hub region held result ≡ fresh }
-{
-    Progress {
-        words: 0,
-        bytes: 0,
-        held: 0,
-        stopped: false,
-    }
-}
 
 // No answer has more bytes: done, and a delivery to each peer.
 pub fn longest_answer() -> usize
@@ -77,19 +110,18 @@ fn lent(hub: &[u32], region: &[u8], held: &[u8], p: Progress) -> bool
         & (p.held < held.len())
 }
 
-// 10 for other memory, then 11 for a buffer without room for the longest answer.
-fn refusal(hub: &[u32], region: &[u8], held: &[u8], p: Progress, room: usize) -> u32
-    ensures is { result ≡ refusal_of hub.now region.now held.now p room }
-    ensures facts { result ≡ 0 → Lent hub.now region.now held.now p × (longest ≤ room) }
+// The memory first, then a buffer's room for the longest answer.
+fn admit(hub: &[u32], region: &[u8], held: &[u8], p: Progress, room: usize) -> Result<(), Refusal>
+    ensures is { refusal_in result ≡ refusal_of hub.now region.now held.now p room }
+    ensures facts { OnOk result (Lent hub.now region.now held.now p × (longest ≤ room)) }
 {
-    let ok = lent(hub, region, held, p);
-    if !ok {
-        return 10;
+    if !lent(hub, region, held, p) {
+        return Err(Refusal::OtherMemory);
     }
     if room < longest_answer() {
-        return 11;
+        return Err(Refusal::ShortBuffer);
     }
-    0
+    Ok(())
 }
 
 // One byte more.
@@ -116,29 +148,13 @@ fn take_byte(
     held[at] = byte;
     let n = at + 1;
     if n < records::length(held[0]) {
-        let progress = Progress {
-            words: p.words,
-            bytes: p.bytes,
-            held: n,
-            stopped: false,
-        };
+        let progress = Progress { held: n, ..p };
         return Taken {
             progress,
             written: 0,
         };
     }
-    records::answer(hub, region, &held[..n], p.words, p.bytes, out)
-}
-
-fn reported(number: u32, progress: Progress, written: usize) -> Report
-    ensures { result ≡ record { number = number; progress = progress; taken = 0; written = written } }
-{
-    Report {
-        number,
-        progress,
-        taken: 0,
-        written,
-    }
+    records::answer(hub, region, Fields::of(held), p, out)
 }
 
 // Takes the bytes of a piece, all of them or as many as the buffer has room for, and writes their answers.
@@ -156,20 +172,24 @@ fn feed_lent(
         region.new held.new piece.now out.old out.new result }
 {
     let last = out.len() - longest_answer();
-    let mut p = progress;
-    let mut i = 0;
-    let mut at = 0;
-    while (i < piece.len()) & (at <= last) {
-        let t = take_byte(hub, region, held, p, piece[i], &mut out[at..]);
-        p = t.progress;
-        at += t.written;
-        i += 1;
+    let mut progress = progress;
+    let mut written = 0;
+    for (taken, byte) in piece.iter().enumerate() {
+        if last < written {
+            return Report {
+                progress,
+                taken,
+                written,
+            };
+        }
+        let t = take_byte(hub, region, held, progress, *byte, &mut out[written..]);
+        progress = t.progress;
+        written += t.written;
     }
     Report {
-        number: 0,
-        progress: p,
-        taken: i,
-        written: at,
+        progress,
+        taken: piece.len(),
+        written,
     }
 }
 
@@ -182,32 +202,30 @@ pub fn feed(
     progress: Progress,
     piece: &[u8],
     out: &mut [u8],
-) -> Report
-    ensures number { result.number ≡ refusal_of hub.old region.old held.old progress (length out.old) }
-    ensures refused { (result.number ≡ 0 → ⊥) → Refuses hub.old hub.new region.old
-        region.new held.old held.new out.old out.new progress result }
-    ensures fed { result.number ≡ 0 → Feeds (player_in hub.old region.old held.old progress)
-        hub.new region.new held.new piece.now out.old out.new result }
+) -> Result<Report, Refusal>
+    ensures number { refusal_in result ≡ refusal_of hub.old region.old held.old progress (length out.old) }
+    ensures refused { OnErr result (Refuses hub.old hub.new region.old region.new held.old held.new out.old out.new) }
+    ensures fed { IfOk result (λ r. Feeds (player_in hub.old region.old held.old progress)
+        hub.new region.new held.new piece.now out.old out.new r) }
 {
-    let number = refusal(hub, region, held, progress, out.len());
-    if number != 0 {
-        return reported(number, progress, 0);
-    }
-    feed_lent(hub, region, held, progress, piece, out)
+    admit(hub, region, held, progress, out.len())?;
+    Ok(feed_lent(hub, region, held, progress, piece, out))
 }
 
-// The end of the input: 84 inside a record.
-pub fn finish(hub: &[u32], region: &[u8], held: &[u8], progress: Progress, out: &mut [u8]) -> Report
+// The end of the input: 84 inside a record. The bytes written.
+pub fn finish(
+    hub: &[u32],
+    region: &[u8],
+    held: &[u8],
+    progress: Progress,
+    out: &mut [u8],
+) -> Result<usize, Refusal>
     ensures { Ends hub.now region.now held.now out.old out.new progress result }
 {
-    let number = refusal(hub, region, held, progress, out.len());
-    if number != 0 {
-        return reported(number, progress, 0);
-    }
-    let inside = !progress.stopped & !(progress.held == 0);
-    if !inside {
-        return reported(0, progress, 0);
+    admit(hub, region, held, progress, out.len())?;
+    if progress.stopped | (progress.held == 0) {
+        return Ok(0);
     }
     out[0] = 0x84;
-    reported(0, progress, 1)
+    Ok(1)
 }

@@ -1,158 +1,160 @@
-// Records: how long each kind is, and what a whole one is answered by.
-ghost use Rattle.std.specs.Prelude.{◌≡◌, ℕ, ◌<◌, ◌≤◌, Bool, true, false, List, eqb, length};
+// Records: how long each is, and what a whole one is answered by.
+ghost use Rattle.std.specs.Prelude.{◌≡◌, ℕ, ◌<◌, ◌≤◌, false, true, List, length, MatchResult};
 ghost use Rattle.device.specs.SetUp.{accepted, total};
 ghost use Rattle.device.specs.Sizes.{max_peers, max_vectors};
 ghost use Rattle.device.specs.World.{World};
 ghost use Rattle.words.specs.Layout.{hub_words};
-ghost use Rattle.playback.specs.Answers.{longest, max_total, set_up_number};
-ghost use Rattle.playback.specs.Answers.{answer};
+ghost use Rattle.hub.specs.Answered.{number_of};
+ghost use Rattle.playback.specs.Answers.{answer, longest, max_total, set_up_number};
+ghost use Rattle.playback.specs.Kinds.{kind_number};
 ghost use Rattle.playback.specs.Log.{Request, kind_of, record_length, request_of, settings_in, longest_record};
 ghost use Rattle.playback.specs.Player.{after};
-ghost use Rattle.playback.specs.Promises.{Goes, world_in};
-ghost use Rattle.playback.specs.Promises;
+ghost use Rattle.playback.specs.Promises.{Answers, Goes, world_in};
 
-use super::{Progress, Taken, answers, calls, numbers};
+use super::answers::{self, Accepted};
+use super::fields::Fields;
+use super::kinds::{Kind, UnknownKind};
+use super::{Progress, Taken, calls};
 use device::Settings;
+use hub::Refusal;
 
-// The bodies of kind 00 to 0B.
-const BODIES: [u8; 12] = [38, 2, 2, 2, 5, 9, 4, 8, 4, 8, 6, 7];
-
-// A record's length: the kind and its body. An unknown kind has no body.
-pub fn length(kind: u8) -> usize
-    ensures { result ≡ record_length kind }
+// Of the record that begins with this byte. An unknown kind has no body.
+pub fn length(byte: u8) -> usize
+    ensures { result ≡ record_length byte }
 {
-    let k = kind as usize;
-    if k < 12 { 1 + BODIES[k] as usize } else { 1 }
-}
-
-fn settings(fields: &[u8]) -> Settings
-    requires { longest_record ≤ length fields.now }
-    ensures { result ≡ settings_in fields.now }
-{
-    Settings {
-        peers: numbers::two(fields, 1) as u64,
-        vectors: numbers::two(fields, 3) as u64,
-        table: numbers::four(fields, 5) as u64,
-        common: numbers::eight(fields, 9),
-        output: numbers::eight(fields, 17),
-        base: numbers::eight(fields, 25),
-        protocol: numbers::two(fields, 33) as u64,
-        vendor: numbers::two(fields, 35) as u64,
-        subsystem: numbers::two(fields, 37) as u64,
+    match Kind::try_from(byte) {
+        Ok(kind) => kind.record_length(),
+        Err(UnknownKind) => 1,
     }
 }
 
-// The numbers are accepted, and the player's region is large enough.
-fn playable(s: Settings) -> bool
-    ensures is { result ≡ eqb (set_up_number s) 0 }
-    ensures facts { result ≡ true → (accepted s ≡ true) × (total s ≤ max_total) }
-    ensures number { result ≡ false → set_up_number s ≡ 1 }
+// Where the player stands after a set-up with these numbers, if they are accepted and its region is large enough.
+fn playable(s: Settings) -> Result<Progress, Refusal>
+    ensures { MatchResult result (λ p. (accepted s ≡ true) × (total s ≤ max_total)
+        × (p ≡ record { words = hub_words s.peers s.vectors; bytes = total s; held = 0; stopped = false }))
+        (λ e. (number_of e ≡ 1) × (set_up_number s ≡ 1)) }
 {
-    let ok = soundness::accepted(s);
-    if !ok {
-        return false;
+    if !soundness::accepted(s) {
+        return Err(Refusal::BadSetting);
     }
-    soundness::total(s) <= super::REGION_BYTES as u64
-}
-
-fn progress(words: usize, bytes: usize, stopped: bool) -> Progress
-    ensures { result ≡ record { words = words; bytes = bytes; held = 0; stopped = stopped } }
-{
-    Progress {
-        words,
-        bytes,
+    let total = soundness::total(s);
+    if total > super::REGION_BYTES as u64 {
+        return Err(Refusal::BadSetting);
+    }
+    Ok(Progress {
+        words: words::hub_words(s.peers as usize, s.vectors as usize),
+        bytes: total as usize,
         held: 0,
-        stopped,
-    }
+        stopped: false,
+    })
 }
 
-fn set_up(hub: &mut [u32], region: &mut [u8], fields: &[u8], out: &mut [u8]) -> Taken
+fn set_up(hub: &mut [u32], region: &mut [u8], fields: Fields, out: &mut [u8]) -> Taken
     requires lent { (length hub.old ≡ hub_words max_peers max_vectors) × (length region.old ≡ max_total) }
-    requires room { (longest_record ≤ length fields.now) × (longest ≤ length out.old) }
+    requires room { longest ≤ length out.old }
     ensures { (held : List ℕ) → length held ≡ longest_record → (w : World) → Goes hub.new
         region.new held out.old out.new result.progress result.written
-        (after (answer w (Request.set_up (settings_in fields.now)))) }
+        (after (answer w (Request.set_up (settings_in fields.entry.bytes.now)))) }
 {
-    let s = settings(fields);
-    let ok = playable(s);
-    if !ok {
-        let written = answers::refused(out, 1);
-        let progress = progress(0, 0, false);
-        return Taken { progress, written };
+    let s = fields.settings();
+    match playable(s) {
+        Ok(progress) => {
+            let outcome = calls::set_up(
+                &mut hub[..progress.words],
+                &mut region[..progress.bytes],
+                s,
+            );
+            let written = answers::write(hub, outcome, out);
+            Taken { progress, written }
+        }
+        Err(refusal) => {
+            let written = answers::write(hub, Err(refusal), out);
+            let progress = Progress::start();
+            Taken { progress, written }
+        }
     }
-    let words = words::hub_words(s.peers as usize, s.vectors as usize);
-    let bytes = soundness::total(s) as usize;
-    let r = hub::set_up(
-        &mut hub[..words],
-        &mut region[..bytes],
-        s.peers,
-        s.vectors,
-        s.table,
-        s.common,
-        s.output,
-        s.base,
-        numbers::two(fields, 33),
-        numbers::two(fields, 35),
-        numbers::two(fields, 37),
-    );
-    let written = answers::done(out, r.number);
-    let progress = progress(words, bytes, false);
-    Taken { progress, written }
 }
 
 // A call, by its kind. The hub and the region are the parts of the lent memory that are in use.
-fn call(hub: &mut [u32], region: &mut [u8], fields: &[u8], out: &mut [u8]) -> usize
-    requires known { (0 < kind_of fields.now) × (kind_of fields.now < 12) }
-    requires room { (record_length (kind_of fields.now) ≤ length fields.now) × (longest ≤ length out.old) }
-    ensures { Promises.Answers hub.old hub.new region.old region.new
-        out.old out.new (request_of (kind_of fields.now) fields.now) result }
+fn call(kind: Kind, hub: &mut [u32], region: &mut [u8], fields: Fields) -> Result<Accepted, Refusal>
+    requires { 0 < kind_number kind }
+    ensures { Answers hub.old hub.new region.old region.new
+        (request_of (kind_number kind) fields.entry.bytes.now) result }
 {
-    let kind = fields[0];
     match kind {
-        0x01 => calls::connect(hub, fields, out),
-        0x02 => calls::disconnect(hub, region, fields, out),
-        0x03 => calls::reset(hub, region, fields, out),
-        0x04 => calls::configuration_read(hub, fields, out),
-        0x05 => calls::configuration_write(hub, fields, out),
-        0x06 => calls::register_read(hub, fields, out),
-        0x07 => calls::register_write(hub, region, fields, out),
-        0x08 => calls::msix_read(hub, fields, out),
-        0x09 => calls::msix_write(hub, fields, out),
-        0x0A => calls::load(hub, region, fields, out),
-        _ => calls::store(hub, region, fields, out),
+        Kind::SetUp => unreachable!(),
+        Kind::Connect => calls::connect(hub, fields),
+        Kind::Disconnect => calls::disconnect(hub, region, fields),
+        Kind::Reset => calls::reset(hub, region, fields),
+        Kind::ConfigurationRead => calls::configuration_read(hub, fields),
+        Kind::ConfigurationWrite => calls::configuration_write(hub, fields),
+        Kind::RegisterRead => calls::register_read(hub, fields),
+        Kind::RegisterWrite => calls::register_write(hub, region, fields),
+        Kind::MsixRead => calls::msix_read(hub, fields),
+        Kind::MsixWrite => calls::msix_write(hub, fields),
+        Kind::Load => calls::load(hub, region, fields),
+        Kind::Store => calls::store(hub, region, fields),
     }
 }
 
-// A whole record, on the first words and bytes of the lent memory.
-pub fn answer(
+// A record of a known kind.
+fn play(
+    kind: Kind,
     hub: &mut [u32],
     region: &mut [u8],
-    fields: &[u8],
-    words: usize,
-    bytes: usize,
+    fields: Fields,
+    p: Progress,
     out: &mut [u8],
 ) -> Taken
     requires lent { (length hub.old ≡ hub_words max_peers max_vectors) × (length region.old ≡ max_total) }
-    requires used { (words ≤ length hub.old) × (bytes ≤ length region.old) }
-    requires room { (record_length (kind_of fields.now) ≤ length fields.now) × (longest ≤ length out.old) }
+    requires used { (p.words ≤ length hub.old) × (p.bytes ≤ length region.old) }
+    requires room { longest ≤ length out.old }
     ensures { (held : List ℕ) → length held ≡ longest_record → Goes hub.new region.new held
         out.old out.new result.progress result.written
-        (after (answer (world_in hub.old region.old words bytes) (request_of (kind_of fields.now)
-        fields.now))) }
+        (after (answer (world_in hub.old region.old p.words p.bytes) (request_of (kind_number kind) fields.entry.bytes.now))) }
 {
-    let kind = fields[0];
-    if kind == 0 {
+    if let Kind::SetUp = kind {
         return set_up(hub, region, fields, out);
     }
-    if 11 < kind {
-        numbers::put_one(out, 0x85);
-        let progress = progress(words, bytes, true);
-        return Taken {
-            progress,
-            written: 1,
-        };
-    }
-    let written = call(&mut hub[..words], &mut region[..bytes], fields, out);
-    let progress = progress(words, bytes, false);
+    let outcome = call(kind, &mut hub[..p.words], &mut region[..p.bytes], fields);
+    let written = answers::write(&hub[..p.words], outcome, out);
+    let progress = Progress {
+        held: 0,
+        stopped: false,
+        ..p
+    };
     Taken { progress, written }
+}
+
+// A whole record, on the lent memory.
+pub fn answer(
+    hub: &mut [u32],
+    region: &mut [u8],
+    fields: Fields,
+    p: Progress,
+    out: &mut [u8],
+) -> Taken
+    requires lent { (length hub.old ≡ hub_words max_peers max_vectors) × (length region.old ≡ max_total) }
+    requires used { (p.words ≤ length hub.old) × (p.bytes ≤ length region.old) }
+    requires room { longest ≤ length out.old }
+    ensures { (held : List ℕ) → length held ≡ longest_record → Goes hub.new region.new held
+        out.old out.new result.progress result.written
+        (after (answer (world_in hub.old region.old p.words p.bytes) (request_of (kind_of fields.entry.bytes.now)
+        fields.entry.bytes.now))) }
+{
+    match Kind::try_from(fields.bytes[0]) {
+        Ok(kind) => play(kind, hub, region, fields, p, out),
+        Err(UnknownKind) => {
+            out[0] = 0x85;
+            let progress = Progress {
+                held: 0,
+                stopped: true,
+                ..p
+            };
+            Taken {
+                progress,
+                written: 1,
+            }
+        }
+    }
 }

@@ -1,33 +1,31 @@
 -- `playback::answers::served` meets its contract: the deliveries stand behind the first byte.
-use Prim.Native.Nat.{suc, ◌+◌, ◌*◌}
-use mathlib.Core.List.{[], ◌∷◌}
+use Prim.Native.Nat.{suc, ◌+◌, ◌*◌, ◌≤◌}
+use mathlib.Core.List.{[], ◌∷◌, map}
 use mathlib.Core.Path.{◌≡◌, refl}
 use native.Mathlib.Omega.{arith}
-use lib.ListN.{length}
-use borrow.Author.Tests.{eq-eqb, ne_eqb}
-use Rattle.deliveries.proofs.ListedLaws.{counted}
+use lib.ListN.{length, length-drop, length-map, length-take, take}
 use Rattle.deliveries.specs.Listed.{listed}
-use Rattle.device.proofs.SizeLaws.{max_peers_pos}
+use Rattle.device.specs.Sizes.{max_peers}
+use Rattle.gate.specs.RingOutcome.{sent_at}
 use Rattle.words.specs.Layout.{hub_of}
-use Rattle.playback.proofs.DeliveryLaws.{length_all}
+use Rattle.playback.proofs.DeliveryLaws.{length_all, take_within}
 use Rattle.playback.proofs.OverLaws.{over_then}
-use Rattle.playback.specs.Answers.{replied, all_delivered}
+use Rattle.playback.specs.Answers.{all_delivered}
 use Rattle.playback.proofs.answers.served.Goals as goal
 
-pub refused-requires : goal.refused-requires
-refused-requires c = omega (arith, max_peers_pos)
-
-pub returns-then-number-ne0 : goal.returns-then-number-ne0
-unfolding replied
-returns-then-number-ne0 c = rw (ne_eqb _ _ c.if-number-ne0.true) c.refused.ensures
+pub put_deliveries-requires : goal.put_deliveries-requires
+unfolding max_peers
+put_deliveries-requires c = simp (length-take, length-drop) (omega arith)
 
 pub returns : goal.returns
-unfolding replied
+unfolding listed max_peers
 returns c =
     let a = c.args in
-    let ds = listed (hub_of a.hub.now) a.list in
-    let all = over_then 1 (0x81 ∷ []) a.out.now refl (omega arith) _ (all_delivered ds) _ c.put_one.ensures
-    c.put_deliveries.ensures in
-    let n : 1 + 17 * a.list.count ≡ suc (length (all_delivered ds)) =
-    rw (length_all ds, ← counted (hub_of a.hub.now) a.list c.requires.0) (omega arith) in
-    record { bytes = rw (eq-eqb _ _ c.if-number-ne0.false) all; count = rw (eq-eqb _ _ c.if-number-ne0.false) n; fits = omega arith }
+    let long : length a.list.targets ≡ 64 = omega arith in
+    let ids = take c.min.result a.list.targets in
+    let same : ids ≡ take a.list.count a.list.targets = rw c.min.ensures (take_within 64 a.list.count a.list.targets long) in
+    let ds = map (sent_at (hub_of a.hub.now) a.list.vector) ids in
+    let all = over_then 1 (0x81 ∷ []) a.out.now refl (omega arith) _ (all_delivered ds) _ c.put.ensures c.put_deliveries.ensures in
+    let n : 1 + 17 * length ids ≡ suc (length (all_delivered ds)) = rw (length_all ds, length-map ids (sent_at (hub_of a.hub.now) a.list.vector)) (omega arith) in
+    let few : length ids ≤ 64 = simp length-take (omega arith) in
+    rw (← same) (record { bytes = all; count = n; fits = omega arith })

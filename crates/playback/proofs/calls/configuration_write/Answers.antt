@@ -1,21 +1,21 @@
 -- `playback::calls::configuration_write` meets its contract.
-use mathlib.Core.Path.{refl}
-use native.Mathlib.Omega.{arith}
-use Rattle.device.proofs.QuietLaws.{may_ring}
-use Rattle.device.proofs.SizeLaws.{max_peers_pos}
+use Rattle.std.proofs.lemmas.Result.{err_from_is_err_and}
 use Rattle.device.specs.Call.{Act, call}
-use Rattle.device.specs.Refusal.{lent_to}
 use Rattle.playback.proofs.CallLaws.{changes_answer}
 use Rattle.playback.proofs.calls.configuration_write.Goals as goal
+use Rattle.device.proofs.QuietLaws.{may_ring}
+use Rattle.device.specs.Refusal.{lent_to}
+use mathlib.Core.Path.{refl}
 
-pub done-requires : goal.done-requires
-done-requires c = omega (arith, max_peers_pos)
+pub returns-in_err-configuration_write : goal.returns-in_err-configuration_write
+unfolding lent_to may_ring
+returns-in_err-configuration_write c =
+    let p = err_from_is_err_and c.from_residual.result c.from_residual.ensures.1 in
+    λ region. rw (p.1, p.2, ← c.id.ensures, ← c.offset.ensures, ← c.width.ensures, ← c.value.ensures)
+    (rw c.in_err-configuration_write.was at (changes_answer c.args.hub.now region (call c.id.result (Act.configuration_write c.offset.result c.width.result c.value.result)) _ _ refl refl c.configuration_write.ensures))
 
 pub returns : goal.returns
 unfolding lent_to may_ring
 returns c =
-    let a = c.args in
-    λ region. rw (← c.id.ensures, ← c.offset.ensures, ← c.width.ensures, ← c.four-x.ensures)
-    (changes_answer a.hub.now region a.out.now _
-    (call c.id.result (Act.configuration_write c.offset.result c.width.result c.four-x.result)) _ _ _ refl
-    refl c.configuration_write-r.ensures c.done.ensures)
+    λ region. rw (← c.id.ensures, ← c.offset.ensures, ← c.width.ensures, ← c.value.ensures)
+    (rw c.in_ok-configuration_write.was at (changes_answer c.args.hub.now region (call c.id.result (Act.configuration_write c.offset.result c.width.result c.value.result)) _ _ refl refl c.configuration_write.ensures))

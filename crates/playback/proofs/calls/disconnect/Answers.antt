@@ -1,20 +1,16 @@
 -- `playback::calls::disconnect` meets its contract.
-use native.Mathlib.Omega.{arith}
+use Rattle.std.proofs.lemmas.Result.{err_from_is_err_and}
 use Rattle.device.specs.Call.{Act, call}
-use Rattle.ivshmem.proofs.TableLaws.{can_hand_out, disconnect_room}
 use Rattle.playback.proofs.CallLaws.{served_answer}
 use Rattle.playback.proofs.calls.disconnect.Goals as goal
 
-pub served-requires : goal.served-requires
-served-requires c =
-    let a = c.args in
-    let s = can_hand_out a.hub.now _ a.region.now _ c.id.result Act.disconnect c.disconnect-s.result
-    c.max_peers.result disconnect_room c.disconnect-s.ensures in
-    (s.0, rw (← c.max_peers.ensures) s.1, omega arith)
+pub returns-in_err-list : goal.returns-in_err-list
+returns-in_err-list c =
+    let p = err_from_is_err_and c.from_residual.result c.from_residual.ensures.1 in
+    rw (p.1, p.2, ← c.id.ensures, ← c.max_peers.ensures)
+    (rw c.in_err-list.was at (served_answer c.args.hub.now c.args.region.now (call c.id.result (Act.disconnect c.max_peers.result)) _ _ _ c.disconnect.ensures))
 
 pub returns : goal.returns
 returns c =
-    let a = c.args in
-    rw (← c.id.ensures, ← c.max_peers.ensures) (served_answer a.hub.now a.region.now a.out.now _
-    (call c.id.result (Act.disconnect c.max_peers.result)) _ _ _ _ c.disconnect-s.ensures
-    c.served.ensures)
+    rw (← c.id.ensures, ← c.max_peers.ensures)
+    (rw c.in_ok-list.was at (served_answer c.args.hub.now c.args.region.now (call c.id.result (Act.disconnect c.max_peers.result)) _ _ _ c.disconnect.ensures))

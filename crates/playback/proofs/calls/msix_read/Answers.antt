@@ -1,19 +1,20 @@
 -- `playback::calls::msix_read` meets its contract.
-use mathlib.Core.Path.{refl}
-use native.Mathlib.Omega.{arith}
-use Rattle.device.proofs.SizeLaws.{max_peers_pos}
-use Rattle.device.proofs.StepLaws.{reads_only}
+use Rattle.std.proofs.lemmas.Result.{err_from_is_err_and}
 use Rattle.device.specs.Call.{Act, call}
 use Rattle.playback.proofs.CallLaws.{reads_answer}
 use Rattle.playback.proofs.calls.msix_read.Goals as goal
+use Rattle.device.proofs.StepLaws.{reads_only}
+use mathlib.Core.Path.{refl}
 
-pub value-requires : goal.value-requires
-value-requires c = omega (arith, max_peers_pos)
+pub returns-in_err-value : goal.returns-in_err-value
+unfolding reads_only
+returns-in_err-value c =
+    let p = err_from_is_err_and c.from_residual.result c.from_residual.ensures.1 in
+    λ region. rw (p.1, p.2, ← c.id.ensures, ← c.offset.ensures)
+    (rw c.in_err-value.was at (reads_answer c.args.hub.now region (call c.id.result (Act.msix_read c.offset.result 4)) _ refl c.msix_read.ensures))
 
 pub returns : goal.returns
 unfolding reads_only
 returns c =
-    let a = c.args in
-    λ region. rw (← c.id.ensures, ← c.offset.ensures) (reads_answer a.hub.now region a.out.now _
-    (call c.id.result (Act.msix_read c.offset.result 4)) _ _ refl c.msix_read-r.ensures
-    c.value.ensures)
+    λ region. rw (← c.id.ensures, ← c.offset.ensures)
+    (rw c.in_ok-value.was at (reads_answer c.args.hub.now region (call c.id.result (Act.msix_read c.offset.result 4)) _ refl c.msix_read.ensures))

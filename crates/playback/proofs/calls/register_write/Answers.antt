@@ -1,22 +1,16 @@
 -- `playback::calls::register_write` meets its contract.
-use native.Mathlib.Omega.{arith}
+use Rattle.std.proofs.lemmas.Result.{err_from_is_err_and}
 use Rattle.device.specs.Call.{Act, call}
-use Rattle.ivshmem.proofs.TableLaws.{can_hand_out, register_write_room}
 use Rattle.playback.proofs.CallLaws.{served_answer}
 use Rattle.playback.proofs.calls.register_write.Goals as goal
 
-pub served-requires : goal.served-requires
-served-requires c =
-    let a = c.args in
-    let s = can_hand_out a.hub.now _ a.region.now _ c.id.result (λ k. Act.register_write k c.offset.result 4
-    c.four-x.result) c.register_write-s.result c.max_peers-n.result (register_write_room c.offset.result 4
-    c.four-x.result) c.register_write-s.ensures in
-    (s.0, rw (← c.max_peers-n.ensures) s.1, omega arith)
+pub returns-in_err-list : goal.returns-in_err-list
+returns-in_err-list c =
+    let p = err_from_is_err_and c.from_residual.result c.from_residual.ensures.1 in
+    rw (p.1, p.2, ← c.id.ensures, ← c.max_peers-n.ensures, ← c.offset.ensures, ← c.value.ensures)
+    (rw c.in_err-list.was at (served_answer c.args.hub.now c.args.region.now (call c.id.result (Act.register_write c.max_peers-n.result c.offset.result 4 c.value.result)) _ _ _ c.register_write.ensures))
 
 pub returns : goal.returns
 returns c =
-    let a = c.args in
-    rw (← c.id.ensures, ← c.max_peers-n.ensures, ← c.offset.ensures, ← c.four-x.ensures)
-    (served_answer a.hub.now a.region.now a.out.now _
-    (call c.id.result (Act.register_write c.max_peers-n.result c.offset.result 4 c.four-x.result)) _ _ _
-    _ c.register_write-s.ensures c.served.ensures)
+    rw (← c.id.ensures, ← c.max_peers-n.ensures, ← c.offset.ensures, ← c.value.ensures)
+    (rw c.in_ok-list.was at (served_answer c.args.hub.now c.args.region.now (call c.id.result (Act.register_write c.max_peers-n.result c.offset.result 4 c.value.result)) _ _ _ c.register_write.ensures))

@@ -1,0 +1,16 @@
+-- `playback::answers::write` meets its contract.
+use native.Mathlib.Omega.{arith}
+use Rattle.device.proofs.SizeLaws.{max_peers_pos}
+use Rattle.playback.specs.Answers.{outcome_bytes}
+use Rattle.playback.proofs.answers.write.Goals as goal
+
+pub refused-requires : goal.refused-requires
+refused-requires c = omega (arith, max_peers_pos)
+
+pub returns-in-Ok : goal.returns-in-Ok
+unfolding outcome_bytes
+returns-in-Ok c = rw c.in-Ok.is c.write_accepted.ensures
+
+pub returns-in-Err : goal.returns-in-Err
+unfolding outcome_bytes
+returns-in-Err c = rw c.in-Err.is (rw c.number.ensures at c.refused.ensures)

@@ -1,6 +1,0 @@
--- `player::play` is safe and ends: each turn takes a byte at least.
-use Rattle.std.proofs.Common.{length, ◌-◌}
-use Rattle.player.proofs.play.Given as goal
-
-abbrev pub decreases-loop-at : goal.decreases-loop-at
-decreases-loop-at g l = length l.piece - l.at
