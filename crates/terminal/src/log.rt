@@ -39,7 +39,7 @@ impl Log {
     // Logs the deliveries of a call, made from the hub that it left, and returns them.
     pub fn add(&mut self, hub: &[u32], list: &Deliveries) -> Result<&[Message], AllocError> {
         let before = self.messages.len();
-        for id in list.targets.iter().take(list.count) {
+        for id in list.delivered() {
             if let Some(guest) = Guest::with_id(*id) {
                 let delivery = deliveries::sent(hub, *id, list.vector);
                 self.messages.push(Message { guest, delivery })?;

@@ -3,7 +3,6 @@
 
 use std::alloc::AllocError;
 
-mod answer;
 mod guest;
 mod log;
 mod print;

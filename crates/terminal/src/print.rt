@@ -1,6 +1,6 @@
 // The lines of a run, and what an accepted call adds to its line.
-use super::answer::Refusal;
 use super::log::Message;
+use hub::Refusal;
 use std::fmt;
 use std::fmt::Display;
 
@@ -32,8 +32,9 @@ impl<'a, R: Print> Printer<'a, R> {
         let step = self.steps;
         match answer {
             Ok(more) => self.line(format_args!("{step} {who}: {what}: answer 0{more}")),
-            Err(Refusal(number)) => self.line(format_args!(
-                "{step} {who}: {what}: answer {number}"
+            Err(refusal) => self.line(format_args!(
+                "{step} {who}: {what}: answer {}",
+                refusal.number()
             )),
         }
     }

@@ -1,9 +1,10 @@
 // What the guests and the host do: each act is one call of the hub or a few, and one line. The first refusal ends an act.
-use super::answer::{Refusal, answer};
 use super::guest::Guest;
 use super::log::{Log, Summary};
 use super::print::{Bytes, Delivered, Printer, Value};
-use hub::Served;
+use deliveries::Deliveries;
+use device::Settings;
+use hub::Refusal;
 use std::alloc::AllocError;
 use std::fmt::Display;
 
@@ -66,21 +67,20 @@ impl<'a, R: Print + AllocGlobal> Terminal<'a, R> {
     }
 
     pub fn set_up(&mut self) {
-        let reply = hub::set_up(
-            &mut self.hub,
-            &mut self.region,
-            u64::from(PEERS),
-            u64::from(VECTORS),
-            SECTION,
-            SECTION,
-            SECTION,
-            BASE,
-            1,
-            0,
-            0,
-        );
+        let settings = Settings {
+            peers: u64::from(PEERS),
+            vectors: u64::from(VECTORS),
+            table: SECTION,
+            common: SECTION,
+            output: SECTION,
+            base: BASE,
+            protocol: 1,
+            vendor: 0,
+            subsystem: 0,
+        };
+        let done = hub::set_up(&mut self.hub, &mut self.region, settings);
         let what = format_args!("set up {PEERS} peers with {VECTORS} vectors");
-        self.printer.step("host", what, answer(reply).map(|_| ""));
+        self.printer.step("host", what, done.map(|()| ""));
     }
 
     // One entry of the MSI-X table, unmasked: an address for each guest's processor, and data that tells the vectors apart.
@@ -91,7 +91,7 @@ impl<'a, R: Print + AllocGlobal> Terminal<'a, R> {
         let address = 0xFEE00000 + own * 0x1000;
         let payload = 0x40 + own * 16 + u32::from(vector);
         for (offset, word) in [(0, address), (8, payload), (12, 0)] {
-            answer(hub::msix_write(&mut self.hub, id, at + offset, 4, word))?;
+            hub::msix_write(&mut self.hub, id, at + offset, 4, word)?;
         }
         Ok(())
     }
@@ -99,20 +99,25 @@ impl<'a, R: Print + AllocGlobal> Terminal<'a, R> {
     // Memory space and bus master in Command, MSI-X enable, two entries, Interrupt Control.
     fn switch_on(&mut self, guest: Guest) -> Result<(), Refusal> {
         let id = guest.id();
-        answer(hub::configuration_write(&mut self.hub, id, COMMAND, 2, 0x0006))?;
-        answer(hub::configuration_write(&mut self.hub, id, MESSAGE_CONTROL, 2, 0x8000))?;
+        hub::configuration_write(&mut self.hub, id, COMMAND, 2, 0x0006)?;
+        hub::configuration_write(&mut self.hub, id, MESSAGE_CONTROL, 2, 0x8000)?;
         for vector in 0..VECTORS {
             self.set_entry(guest, vector)?;
         }
-        answer(self.write(guest, Register::InterruptControl, 1).reply)?;
+        self.write(guest, Register::InterruptControl, 1)?;
         Ok(())
     }
 
     fn read(&self, guest: Guest, register: Register) -> Result<u32, Refusal> {
-        answer(hub::register_read(&self.hub, guest.id(), register as u64, 4))
+        hub::register_read(&self.hub, guest.id(), register as u64, 4)
     }
 
-    fn write(&mut self, guest: Guest, register: Register, value: u32) -> Served {
+    fn write(
+        &mut self,
+        guest: Guest,
+        register: Register,
+        value: u32,
+    ) -> Result<Deliveries, Refusal> {
         hub::register_write(
             &mut self.hub,
             &mut self.region,
@@ -125,7 +130,7 @@ impl<'a, R: Print + AllocGlobal> Terminal<'a, R> {
     }
 
     fn enter(&mut self, guest: Guest) -> Result<u32, Refusal> {
-        answer(hub::connect(&mut self.hub, guest.id()))?;
+        hub::connect(&mut self.hub, guest.id())?;
         self.switch_on(guest)?;
         self.read(guest, Register::Id)
     }
@@ -139,8 +144,8 @@ impl<'a, R: Print + AllocGlobal> Terminal<'a, R> {
     // Bit 0 of Privileged Control is one-shot mode.
     fn set_one_shot(&mut self, guest: Guest, on: bool) -> Result<u32, Refusal> {
         let id = guest.id();
-        answer(hub::configuration_write(&mut self.hub, id, PRIVILEGED_CONTROL, 1, u32::from(on)))?;
-        answer(hub::configuration_read(&self.hub, id, PRIVILEGED_CONTROL, 1))
+        hub::configuration_write(&mut self.hub, id, PRIVILEGED_CONTROL, 1, u32::from(on))?;
+        hub::configuration_read(&self.hub, id, PRIVILEGED_CONTROL, 1)
     }
 
     pub fn one_shot(&mut self, guest: Guest, on: bool) {
@@ -159,81 +164,81 @@ impl<'a, R: Print + AllocGlobal> Terminal<'a, R> {
     }
 
     pub fn store(&mut self, guest: Guest, what: &str, offset: u64, bytes: &[u8]) {
-        let stored = answer(hub::store(&self.hub, &mut self.region, guest.id(), offset, bytes));
+        let stored = hub::store(&self.hub, &mut self.region, guest.id(), offset, bytes);
         let bytes = Bytes(bytes);
         self.printer
-            .step(guest, format_args!("{what}{bytes}"), stored.map(|_| ""));
+            .step(guest, format_args!("{what}{bytes}"), stored.map(|()| ""));
     }
 
     pub fn load(&mut self, guest: Guest, what: &str, offset: u64, buffer: &mut [u8]) {
-        let loaded = answer(hub::load(&self.hub, &self.region, guest.id(), offset, buffer));
+        let loaded = hub::load(&self.hub, &self.region, guest.id(), offset, buffer);
         self.printer
-            .step(guest, what, loaded.map(|_| Bytes(buffer)));
+            .step(guest, what, loaded.map(|()| Bytes(buffer)));
     }
 
     // Whether the guest may store to the section at the offset.
     pub fn ask(&mut self, guest: Guest, what: &str, offset: u64) {
-        let r = hub::section_question(&self.hub, guest.id(), offset, SECTION);
-        let right = if r.section.store {
+        let section = hub::section_question(&self.hub, guest.id(), offset, SECTION);
+        let right = section.map(|s| if s.store {
             ", may store"
         } else {
             ", may not store"
-        };
-        self.printer
-            .step(guest, what, answer(r.reply).map(|_| right));
+        });
+        self.printer.step(guest, what, right);
     }
 
-    // The line of a call that may ring, and its deliveries.
+    // The line of a call that may ring, and its deliveries. A refused one rings nobody.
     fn served(
         &mut self,
         who: impl Display + Drop,
         what: impl Display + Drop,
-        s: Served,
+        answer: Result<Deliveries, Refusal>,
     ) -> Result<(), AllocError> {
-        let messages = self.log.add(&self.hub, &s.list)?;
+        let list = answer.unwrap_or(deliveries::none());
+        let messages = self.log.add(&self.hub, &list)?;
         self.printer
-            .step(who, what, answer(s.reply).map(|_| Delivered(messages)));
+            .step(who, what, answer.map(|_| Delivered(messages)));
         Ok(())
     }
 
     // The customer presses 'order'. The Doorbell takes an id in its upper half, and a vector in its lower.
     pub fn press(&mut self) -> Result<(), AllocError> {
         let ring = (Guest::Orders as u32) << 16 | 1;
-        let s = self.write(Guest::Touch, Register::Doorbell, ring);
-        self.served(Guest::Touch, "press, ring orders with vector 1", s)
+        let answer = self.write(Guest::Touch, Register::Doorbell, ring);
+        self.served(Guest::Touch, "press, ring orders with vector 1", answer)
     }
 
     // A slab is cut for each order that was delivered, and their number announced.
     pub fn cut(&mut self) -> Result<(), AllocError> {
         let slabs = (self.log.count(Guest::Orders, 1) % 256) as u32;
-        let s = self.write(Guest::Orders, Register::State, slabs);
+        let answer = self.write(Guest::Orders, Register::State, slabs);
         self.served(
             Guest::Orders,
             format_args!("cut slabs, store State {slabs}"),
-            s,
+            answer,
         )
     }
 
     // The planner announces that it is saving. A State that it holds already rings nobody.
     pub fn save(&mut self) -> Result<(), AllocError> {
-        let s = self.write(Guest::Planner, Register::State, 1);
-        self.served(Guest::Planner, "save, store State 1", s)
+        let answer = self.write(Guest::Planner, Register::State, 1);
+        self.served(Guest::Planner, "save, store State 1", answer)
     }
 
     // After a delivery in one-shot mode: interrupts on again.
     pub fn rearm(&mut self) -> Result<(), AllocError> {
-        let s = self.write(Guest::Orders, Register::InterruptControl, 1);
-        self.served(Guest::Orders, "write 1 to Interrupt Control", s)
+        let answer = self.write(Guest::Orders, Register::InterruptControl, 1);
+        self.served(Guest::Orders, "write 1 to Interrupt Control", answer)
     }
 
     pub fn reset(&mut self, guest: Guest) -> Result<(), AllocError> {
-        let s = hub::reset(&mut self.hub, &mut self.region, RECORDS, guest.id());
-        self.served("host", format_args!("reset {guest}"), s)
+        let answer = hub::reset(&mut self.hub, &mut self.region, RECORDS, guest.id());
+        self.served("host", format_args!("reset {guest}"), answer)
     }
 
     pub fn disconnect(&mut self, guest: Guest) -> Result<(), AllocError> {
-        let s = hub::disconnect(&mut self.hub, &mut self.region, RECORDS, guest.id());
-        self.served("host", format_args!("disconnect {guest}"), s)
+        let answer = hub::disconnect(&mut self.hub, &mut self.region, RECORDS, guest.id());
+        self.served("host", format_args!("disconnect {guest}"), answer)
     }
 
     // The deliveries that each guest got.
