@@ -1,116 +1,77 @@
-// The deliveries of one run, and the number of its steps.
-use super::print;
+// The deliveries of one run, in order.
+use super::guest::Guest;
 use deliveries::Deliveries;
-use device::{Delivery, PeerId, Vector};
+use device::{Delivery, Vector};
+use std::alloc::{AllocError, Global};
+use std::fmt;
 
-// More than a run has.
-const ROOM: usize = 32;
-
+// A delivery, and the guest that it went to.
 #[derive(Clone, Copy)]
-pub struct Log {
-    pub steps: u64,
-    pub count: usize,
-    pub records: [Delivery; ROOM],
+pub struct Message {
+    pub guest: Guest,
+    pub delivery: Delivery,
 }
 
-fn no_delivery() -> Delivery {
-    Delivery {
-        address: 0,
-        payload: 0,
-        target: PeerId(0),
-        vector: Vector(0),
+impl fmt::Display for Message {
+    fn fmt<W: fmt::Write>(&self, f: &mut fmt::Formatter<W>) -> fmt::Result {
+        let Delivery {
+            address,
+            payload,
+            vector: Vector(vector),
+            ..
+        } = self.delivery;
+        write!(f, "(vector {vector}, {address:08X}h, {payload:08X}h)")
     }
+}
+
+#[derive(Drop)]
+pub struct Log {
+    messages: Vec<Message>,
 }
 
 impl Log {
-    pub fn new() -> Self {
+    pub fn new(alloc: Global) -> Self {
         Self {
-            steps: 0,
-            count: 0,
-            records: [no_delivery(); ROOM],
+            messages: Vec::new(alloc),
         }
     }
 
-    // The next step's line: its number, who acts, and what is done. The number has three digits at most.
-    pub fn begin(self, rt: &impl Print, who: u64, what: &[u8]) -> Self {
-        let step = self.steps % 999 + 1;
-        print::start(rt, step, who, what);
-        let mut next = self;
-        next.steps = step;
-        next
-    }
-
-    fn with(self, d: Delivery) -> Self {
-        let at = self.count;
-        if at >= ROOM {
-            return self;
+    // Logs the deliveries of a call, made from the hub that it left, and returns them.
+    pub fn add(&mut self, hub: &[u32], list: &Deliveries) -> Result<&[Message], AllocError> {
+        let before = self.messages.len();
+        for id in list.delivered() {
+            if let Some(guest) = Guest::with_id(*id) {
+                let delivery = deliveries::sent(hub, *id, list.vector);
+                self.messages.push(Message { guest, delivery })?;
+            }
         }
-        let mut next = self;
-        next.records[at] = d;
-        next.count = at + 1;
-        next
+        Ok(&self.messages[before..])
+    }
+
+    // How many deliveries a guest got, of the vectors from `least` on.
+    pub fn count(&self, guest: Guest, least: u16) -> usize {
+        self.messages
+            .iter()
+            .filter(|m| m.guest == guest && m.delivery.vector.0 >= least)
+            .count()
     }
 }
 
-// The deliveries of a call, made from the hub that it left.
-pub fn with_all(hub: &[u32], log: Log, list: Deliveries) -> Log {
-    let count = list.count;
-    let vector = list.vector;
-    let targets = list.targets;
-    let mut next = log;
-    let mut k = 0;
-    while k < device::MAX_PEERS {
-        if k < count {
-            next = next.with(deliveries::sent(hub, targets[k], vector));
+// All that a guest got.
+#[derive(Clone, Copy)]
+pub struct Summary<'a> {
+    pub log: &'a Log,
+    pub guest: Guest,
+}
+
+impl fmt::Display for Summary<'_> {
+    fn fmt<W: fmt::Write>(&self, f: &mut fmt::Formatter<W>) -> fmt::Result {
+        let guest = self.guest;
+        let count = self.log.count(guest, 0);
+        write!(f, "{guest} got {count}:")?;
+        for message in self.log.messages.iter().filter(|m| m.guest == guest) {
+            write!(f, " {message}")?;
         }
-        k += 1;
+        Ok(())
     }
-    next
-}
-
-fn is_to(d: Delivery, target: u64) -> bool {
-    let to = d.target;
-    to.0 as u64 == target
-}
-
-fn counts(d: Delivery, target: u64, least: u16) -> bool {
-    let vector = d.vector;
-    is_to(d, target) & (vector.0 >= least)
-}
-
-// How many deliveries a guest got, of the vectors from `least` on.
-pub fn got(log: Log, target: u64, least: u16) -> usize {
-    let count = log.count;
-    let records = log.records;
-    let mut found = 0;
-    let mut k = 0;
-    while k < ROOM {
-        if (k < count) & counts(records[k], target, least) {
-            found += 1;
-        }
-        k += 1;
-    }
-    found
-}
-
-// All deliveries that a guest got, in order.
-fn messages(rt: &impl Print, log: Log, target: u64) {
-    let count = log.count;
-    let records = log.records;
-    let mut k = 0;
-    while k < ROOM {
-        if (k < count) & is_to(records[k], target) {
-            print::message(rt, records[k]);
-        }
-        k += 1;
-    }
-}
-
-pub fn summary(rt: &impl Print, log: Log, target: u64) {
-    print::name(rt, target);
-    print::text(rt, b" got ");
-    print::decimal(rt, got(log, target, 0) as u64);
-    print::text(rt, b":");
-    messages(rt, log, target);
-    print::text(rt, b"\n");
 }

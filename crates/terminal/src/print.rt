@@ -1,151 +1,84 @@
-// The parts of a line.
-use deliveries::Deliveries;
-use device::{Delivery, Vector};
+// The lines of a run, and what an accepted call adds to its line.
+use super::log::Message;
+use hub::Refusal;
+use std::fmt;
+use std::fmt::Display;
 
-// A write that fails is let go, and the program goes on.
-pub fn text(rt: &impl Print, s: &[u8]) {
-    let _ = rt.write_all(s);
+// The output, and the number of the last step.
+#[derive(Drop)]
+pub struct Printer<'a, R: Print> {
+    rt: &'a R,
+    steps: u64,
 }
 
-pub fn decimal(rt: &impl Print, n: u64) {
-    let _ = rt.print(n);
-}
+impl<'a, R: Print> Printer<'a, R> {
+    pub fn new(rt: &'a R) -> Self {
+        Self { rt, steps: 0 }
+    }
 
-// The guests by their ids; the host has none.
-pub fn name(rt: &impl Print, id: u64) {
-    match id {
-        0 => text(rt, b"touch"),
-        1 => text(rt, b"planner"),
-        2 => text(rt, b"orders"),
-        3 => text(rt, b"card"),
-        _ => text(rt, b"host"),
+    // A write that fails is let go, and the program goes on.
+    pub fn line(&self, text: impl Display + Drop) {
+        let _ = self.rt.println(text);
+    }
+
+    // A step's line: its number, who acts, what is done, and the answer. 0 says that all calls of the step were accepted.
+    pub fn step(
+        &mut self,
+        who: impl Display + Drop,
+        what: impl Display + Drop,
+        answer: Result<impl Display + Drop, Refusal>,
+    ) {
+        self.steps = self.steps.saturating_add(1);
+        let step = self.steps;
+        match answer {
+            Ok(more) => self.line(format_args!("{step} {who}: {what}: answer 0{more}")),
+            Err(refusal) => self.line(format_args!(
+                "{step} {who}: {what}: answer {}",
+                refusal.number()
+            )),
+        }
     }
 }
 
-// The start of a line.
-pub fn start(rt: &impl Print, step: u64, who: u64, what: &[u8]) {
-    decimal(rt, step);
-    text(rt, b" ");
-    name(rt, who);
-    text(rt, b": ");
-    text(rt, what);
-}
+// The value of a read.
+#[derive(Clone, Copy)]
+pub struct Value(pub u32);
 
-fn digit(n: u64) -> u8 {
-    let d = (n % 16) as u8;
-    if d < 10 { d + b'0' } else { d + 55 }
-}
-
-// The lowest byte and the lowest four bytes in hexadecimal.
-fn byte(rt: &impl Print, n: u64) {
-    text(rt, &[digit(n / 16), digit(n)]);
-}
-
-fn word(rt: &impl Print, n: u64) {
-    byte(rt, n / 0x1000000);
-    byte(rt, n / 0x10000);
-    byte(rt, n / 0x100);
-    byte(rt, n);
-}
-
-// Vector, address and data of a delivery.
-pub fn message(rt: &impl Print, d: Delivery) {
-    let vector = d.vector;
-    let address = d.address;
-    text(rt, b" (vector ");
-    decimal(rt, vector.0 as u64);
-    text(rt, b", ");
-    if address > 0xFFFFFFFF {
-        word(rt, address / 0x100000000);
-    }
-    word(rt, address);
-    text(rt, b"h, ");
-    word(rt, d.payload as u64);
-    text(rt, b"h)");
-}
-
-fn answer(rt: &impl Print, number: u32) {
-    text(rt, b": answer ");
-    decimal(rt, number as u64);
-}
-
-// The end of a line: an answer alone, with the value of a read, the right to store, or the bytes of a load.
-pub fn answered(rt: &impl Print, number: u32) {
-    answer(rt, number);
-    text(rt, b"\n");
-}
-
-pub fn value(rt: &impl Print, number: u32, read: u32) {
-    answer(rt, number);
-    text(rt, b", value ");
-    decimal(rt, read as u64);
-    text(rt, b"\n");
-}
-
-pub fn asked(rt: &impl Print, number: u32, store: bool) {
-    answer(rt, number);
-    if store {
-        text(rt, b", may store\n");
-    } else {
-        text(rt, b", may not store\n");
+impl Display for Value {
+    fn fmt<W: fmt::Write>(&self, f: &mut fmt::Formatter<W>) -> fmt::Result {
+        write!(f, ", value {}", self.0)
     }
 }
 
-pub fn loaded(rt: &impl Print, number: u32, buffer: &[u8]) {
-    answer(rt, number);
-    bytes(rt, buffer);
-    text(rt, b"\n");
-}
+// The bytes of a load or a store.
+#[derive(Clone, Copy)]
+pub struct Bytes<'a>(pub &'a [u8]);
 
-fn delivery(rt: &impl Print, target: u8, vector: Vector) {
-    name(rt, target as u64);
-    text(rt, b" vector ");
-    decimal(rt, vector.0 as u64);
+impl Display for Bytes<'_> {
+    fn fmt<W: fmt::Write>(&self, f: &mut fmt::Formatter<W>) -> fmt::Result {
+        f.write_str(", bytes")?;
+        for byte in self.0 {
+            write!(f, " {byte}")?;
+        }
+        Ok(())
+    }
 }
 
 // The deliveries of a call, in ring order.
-fn delivered(rt: &impl Print, list: Deliveries) {
-    let count = list.count;
-    let vector = list.vector;
-    let targets = list.targets;
-    if count == 0 {
-        text(rt, b"nothing");
-    }
-    let mut k = 0;
-    while k < device::MAX_PEERS {
-        if k < count {
-            comma(rt, k);
-            delivery(rt, targets[k], vector);
+#[derive(Clone, Copy)]
+pub struct Delivered<'a>(pub &'a [Message]);
+
+impl Display for Delivered<'_> {
+    fn fmt<W: fmt::Write>(&self, f: &mut fmt::Formatter<W>) -> fmt::Result {
+        f.write_str(", delivered: ")?;
+        if self.0.is_empty() {
+            return f.write_str("nothing");
         }
-        k += 1;
-    }
-}
-
-// The end of a line of a call that may ring.
-pub fn served(rt: &impl Print, number: u32, list: Deliveries) {
-    answer(rt, number);
-    text(rt, b", delivered: ");
-    delivered(rt, list);
-    text(rt, b"\n");
-}
-
-// Between the items of a list.
-fn comma(rt: &impl Print, k: usize) {
-    if k > 0 {
-        text(rt, b", ");
-    }
-}
-
-fn wide(b: u8) -> u64 {
-    b as u64
-}
-
-pub fn bytes(rt: &impl Print, b: &[u8]) {
-    text(rt, b", bytes");
-    let mut k = 0;
-    while k < b.len() {
-        text(rt, b" ");
-        decimal(rt, wide(b[k]));
-        k += 1;
+        for (place, message) in self.0.iter().enumerate() {
+            let separator = if place == 0 { "" } else { ", " };
+            let Message { guest, delivery } = message;
+            write!(f, "{separator}{guest} vector {}", delivery.vector.0)?;
+        }
+        Ok(())
     }
 }
