@@ -1,6 +1,6 @@
 -- Reads of the register region and of the MSI-X region, over which of the two it is.
 use Prim.Native.Nat.{ℕ}
-use mathlib.Core.Bool.{Bool, true, false}
+use mathlib.Core.Bool.{false}
 use mathlib.Core.List.{List, ◌++◌}
 use mathlib.Core.Path.{◌≡◌, refl}
 use lib.Dec.{eqb}
@@ -13,21 +13,22 @@ use Rattle.device.specs.Refusal.{lent_to, access_of}
 use Rattle.device.specs.Step.{effect_in}
 use Rattle.device.specs.World.{World, slot_at}
 use Rattle.words.specs.Layout.{hub_of}
-use Rattle.hub.specs.declared.Lending.{Lending}
+use Rattle.hub.specs.declared.reads.Region.{Region}
+use Rattle.hub.specs.declared.reads.Region.TheVariants.{Registers, Msix}
 use Rattle.hub.specs.Admission.{nothing_lent, admission, space_rows}
 use Rattle.hub.specs.Reads.{region_read}
 use Rattle.hub.proofs.RefusalLaws.{Checked, region_checked}
 
-pub region_read_checked : (ws : List ℕ) (id : ℕ) (table : Bool) (at w n : ℕ) (lent : Lending) → lent ≡ nothing_lent →
-    n ≡ first (admission (hub_of ws) lent id ++ space_rows 4096 (eqb w 4) at w) →
-    Checked ws (call id (region_read table at w)) n
+pub region_read_checked : (ws : List ℕ) (id : ℕ) (region : Region) (at w n : ℕ) →
+    n ≡ first (admission (hub_of ws) nothing_lent id ++ space_rows 4096 (eqb w 4) at w) →
+    Checked ws (call id (region_read region at w)) n
 unfolding lent_to access_of
-region_read_checked ws id true at w n lent none e = region_checked ws id _ at w n lent refl refl none e
-region_read_checked ws id false at w n lent none e = region_checked ws id _ at w n lent refl refl none e
+region_read_checked ws id Msix at w n e = region_checked ws id _ at w n refl refl e
+region_read_checked ws id Registers at w n e = region_checked ws id _ at w n refl refl e
 
 -- with Command bit 1 off, both are all ones
-pub unmapped_read : (w : World) (id : ℕ) (table : Bool) (at width : ℕ) → memory_on (slot_at w.hub id).peer ≡ false →
-    unmapped ≡ (effect_in w (call id (region_read table at width))).value
+pub unmapped_read : (w : World) (id : ℕ) (region : Region) (at width : ℕ) → memory_on (slot_at w.hub id).peer ≡ false →
+    unmapped ≡ (effect_in w (call id (region_read region at width))).value
 unfolding effect msix_read register_read
-unmapped_read w id true at width off = rw off
-unmapped_read w id false at width off = rw off
+unmapped_read w id Msix at width off = rw off
+unmapped_read w id Registers at width off = rw off

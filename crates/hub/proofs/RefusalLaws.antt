@@ -3,12 +3,14 @@ use Prim.Native.Nat.{ℕ, ◌<◌, ◌≤◌}
 use mathlib.Core.Bool.{Bool, true, false, not}
 use mathlib.Core.List.{List, ◌++◌}
 use mathlib.Core.Path.{◌≡◌, refl, sym, ap, ◌∙◌}
+use Rattle.std.specs.Prelude.{Option, Some, None, IfSome, Result, Ok, Err, OnOk}
+use Rattle.device.specs.declared.Settings.{Settings}
 use native.Mathlib.Omega.{arith}
 use lib.Dec.{eqb, leb}
 use lib.ListN.{length}
 use borrow.Author.Tests.{eqb-true, eqb-false, leb-false, ltb-false, not-false}
-use Rattle.common.specs.Tests.{first}
-use Rattle.common.proofs.TestLaws.{and_right, below_true, first_none, first_parts}
+use Rattle.common.specs.Tests.{Row, first}
+use Rattle.common.proofs.TestLaws.{and_right, below_true, first_goes_on, first_none, first_stops, positive}
 use Rattle.device.specs.Call.{Act, Call, call}
 use Rattle.device.specs.Refusal.{Lent, Access, checks, lent_to, access_of, wrong_region, short_table, missing, present}
 use Rattle.device.specs.Refusal.{wrong_width, misaligned, outside, forbidden, is_connected, refusal}
@@ -22,12 +24,58 @@ use Rattle.sections.proofs.OutputLaws.{held_fits}
 use Rattle.soundness.proofs.WholeLaws.{sound_numbers, sound_room}
 use Rattle.words.specs.Layout.{hub_of}
 use Rattle.words.proofs.LayoutLaws.{entries_length}
-use Rattle.hub.specs.declared.Lending.{Lending}
-use Rattle.hub.specs.Admission.{nothing_lent, region_lent, both_lent, admission, joining_rows, space_rows}
-use Rattle.hub.specs.Admission.{range_rows, store_rows, any_width, Admitted, Inside, InSection}
+use Rattle.hub.specs.declared.reasons.Refusal.{Refusal}
+use Rattle.hub.specs.declared.reasons.Refusal.TheVariants.{BadSetting, BadRegion, NoSuchPeer, NotConnected, Connected, BadWidth}
+use Rattle.hub.specs.declared.reasons.Refusal.TheVariants.{Misaligned, OutOfRange, ReadOnly, UnsoundHub, ShortTable}
+use Rattle.hub.specs.declared.refusals.Lending.{Lending}
+use Rattle.hub.specs.declared.refusals.Space.{Space}
+use Rattle.hub.specs.declared.refusals.Space.TheVariants.{Configuration, Registers}
+use Rattle.hub.specs.Admission.{nothing_lent, region_lent, both_lent, other_length, admission, joining_rows, space_rows}
+use Rattle.hub.specs.Admission.{range_rows, store_rows, any_width, allows, size_of, Admitted, Inside, InSection}
+use Rattle.hub.specs.Answered.{number_of, number_in}
+
+-- no refusal has number 0
+pub number_some : (e : Refusal) → number_of e ≡ 0 → ⊥
+number_some BadSetting z = omega arith
+number_some BadRegion z = omega arith
+number_some NoSuchPeer z = omega arith
+number_some NotConnected z = omega arith
+number_some Connected z = omega arith
+number_some BadWidth z = omega arith
+number_some Misaligned z = omega arith
+number_some OutOfRange z = omega arith
+number_some ReadOnly z = omega arith
+number_some UnsoundHub z = omega arith
+number_some ShortTable z = omega arith
+
+-- rows in two parts, as the code tests them: a refusal by the first part, and what the second part gives where that gives none
+pub stops : (xs ys : List Row) (e : Refusal) → number_of e ≡ first xs → number_of e ≡ first (xs ++ ys)
+stops xs ys e is = is ∙ sym (first_stops xs ys (λ z. number_some e (is ∙ z)))
+
+pub goes_on : (xs ys : List Row) (n : ℕ) → positive xs ≡ true → 0 ≡ first xs → n ≡ first ys → n ≡ first (xs ++ ys)
+goes_on xs ys n p none is = is ∙ sym (first_goes_on xs ys p (sym none))
+
+-- what an accepted result tells, by its number
+pub on_ok : {A P : Type 0} (r : Result A Refusal) → (0 ≡ number_in r → P) → OnOk r P
+on_ok (Ok x) f = f refl
+on_ok (Err e) f = tt
+
+-- the only refusal with number 5
+pub five_connected : (e : Refusal) → number_of e ≡ 5 → e ≡ Connected
+five_connected BadSetting z = absurd (omega arith)
+five_connected BadRegion z = absurd (omega arith)
+five_connected NoSuchPeer z = absurd (omega arith)
+five_connected NotConnected z = absurd (omega arith)
+five_connected Connected z = refl
+five_connected BadWidth z = absurd (omega arith)
+five_connected Misaligned z = absurd (omega arith)
+five_connected OutOfRange z = absurd (omega arith)
+five_connected ReadOnly z = absurd (omega arith)
+five_connected UnsoundHub z = absurd (omega arith)
+five_connected ShortTable z = absurd (omega arith)
 
 known_caller : (ws : List ℕ) (lent : Lending) (id : ℕ) → not (sound (hub_of ws)) ≡ false →
-    (lent.regional ≡ true → lent.region ≡ total (hub_of ws).settings) → leb (hub_of ws).settings.peers id ≡ false →
+    IfSome lent.region (λ n. n ≡ total (hub_of ws).settings) → leb (hub_of ws).settings.peers id ≡ false →
     Admitted ws lent id
 known_caller ws lent id n region l =
     let s = not-false _ n in
@@ -39,18 +87,15 @@ known_caller ws lent id n region l =
       region = region;
     }
 
+same_length : (o : Option ℕ) (n : ℕ) → other_length o n ≡ false → IfSome o (λ m. m ≡ n)
+same_length None n e = tt
+same_length (Some m) n e = eqb-true _ _ (not-false _ e)
+
 pub admitted_facts : (ws : List ℕ) (lent : Lending) (id : ℕ) →
     first (admission (hub_of ws) lent id) ≡ 0 → Admitted ws lent id
 admitted_facts ws lent id e =
     let none = first_none (admission (hub_of ws) lent id) refl e in
-    known_caller ws lent id (none 0) (λ t. eqb-true _ _ (not-false _ (rw t at (none 1)))) (none 3)
-
--- the same beside the number itself, as the code promises it
-pub with_facts : (ws : List ℕ) (lent : Lending) (id r : ℕ) →
-    r ≡ first (admission (hub_of ws) lent id) →
-    (r ≡ first (admission (hub_of ws) lent id)) × (r ≡ 0 → Admitted ws lent id)
-with_facts ws lent id r e =
-    (e, λ z. admitted_facts ws lent id (sym e ∙ z))
+    known_caller ws lent id (none 0) (same_length lent.region _ (none 1)) (none 3)
 
 -- The table for each kind of access, over the call that makes it.
 by_kind : (h : Hub) (region : List ℕ) (id : ℕ) (act : Act) (lent : Lent) (access : Access) →
@@ -77,17 +122,17 @@ abbrev pub Checked : List ℕ → Call → ℕ → Type 0
 Checked ws c n = (region : List ℕ) → refusal (world (hub_of ws) region) c ≡ n
 
 -- the code's checks of an access to a space, with nothing lent: configuration space, and the two regions
-pub configuration_checked : (ws : List ℕ) (id : ℕ) (act : Act) (at w n : ℕ) (lent : Lending) →
-    lent_to act ≡ Lent.nothing → access_of act ≡ Access.configuration at w → lent ≡ nothing_lent →
-    n ≡ first (admission (hub_of ws) lent id ++ space_rows 256 (any_width w) at w) → Checked ws (call id act) n
-configuration_checked ws id act at w n lent l a none e region =
-    configuration_refusal (hub_of ws) region id act at w l a ∙ sym (rw none at e)
+pub configuration_checked : (ws : List ℕ) (id : ℕ) (act : Act) (at w n : ℕ) →
+    lent_to act ≡ Lent.nothing → access_of act ≡ Access.configuration at w →
+    n ≡ first (admission (hub_of ws) nothing_lent id ++ space_rows 256 (any_width w) at w) → Checked ws (call id act) n
+configuration_checked ws id act at w n l a e region =
+    configuration_refusal (hub_of ws) region id act at w l a ∙ sym e
 
-pub region_checked : (ws : List ℕ) (id : ℕ) (act : Act) (at w n : ℕ) (lent : Lending) →
-    lent_to act ≡ Lent.nothing → access_of act ≡ Access.registers at w → lent ≡ nothing_lent →
-    n ≡ first (admission (hub_of ws) lent id ++ space_rows 4096 (eqb w 4) at w) → Checked ws (call id act) n
-region_checked ws id act at w n lent l a none e region =
-    region_refusal (hub_of ws) region id act at w l a ∙ sym (rw none at e)
+pub region_checked : (ws : List ℕ) (id : ℕ) (act : Act) (at w n : ℕ) →
+    lent_to act ≡ Lent.nothing → access_of act ≡ Access.registers at w →
+    n ≡ first (admission (hub_of ws) nothing_lent id ++ space_rows 4096 (eqb w 4) at w) → Checked ws (call id act) n
+region_checked ws id act at w n l a e region =
+    region_refusal (hub_of ws) region id act at w l a ∙ sym e
 
 -- the section question
 pub question_refusal : (h : Hub) (region : List ℕ) (id at n : ℕ) →
@@ -97,31 +142,10 @@ unfolding refusal first lent_to access_of wrong_region short_table missing prese
 question_refusal h region id at n = refl
 
 -- an access to a space that is not refused
-module _ (ws : List ℕ) (lent : Lending) (id size : ℕ) (allowed : Bool) (at w : ℕ)
-    (e : first (admission (hub_of ws) lent id ++ space_rows size allowed at w) ≡ 0) where
-  pub space_admitted : Admitted ws lent id
-  space_admitted =
-      admitted_facts ws lent id
-      (first_parts (admission (hub_of ws) lent id) (space_rows size allowed at w) refl e).0
-
-  pub space_inside : Inside size allowed at w
-  space_inside =
-      let none =
-      first_none (space_rows size allowed at w) refl
-      (first_parts (admission (hub_of ws) lent id) (space_rows size allowed at w) refl e).1 in
-      record { width = not-false allowed (none 0); aligned = eqb-true _ _ (not-false _ (none 1)); fits = ltb-false _ _ (none 2) }
-
-pub space_facts : (ws : List ℕ) (lent : Lending) (id size : ℕ) (allowed : Bool) (at w r : ℕ) →
-    r ≡ first (admission (hub_of ws) lent id ++ space_rows size allowed at w) →
-    (r ≡ first (admission (hub_of ws) lent id ++ space_rows size allowed at w))
-    × ((r ≡ 0 → Admitted ws lent id) × (r ≡ 0 → Inside size allowed at w))
-space_facts ws lent id size allowed at w r e = (
-  e,
-  (
-    λ z. space_admitted ws lent id size allowed at w (sym e ∙ z),
-    λ z. space_inside ws lent id size allowed at w (sym e ∙ z),
-  ),
-)
+pub space_inside : (size : ℕ) (allowed : Bool) (at w : ℕ) → 0 ≡ first (space_rows size allowed at w) → Inside size allowed at w
+space_inside size allowed at w e =
+    let none = first_none (space_rows size allowed at w) refl (sym e) in
+    record { width = not-false allowed (none 0); aligned = eqb-true _ _ (not-false _ (none 1)); fits = ltb-false _ _ (none 2) }
 
 -- the widths of configuration space
 pub any_width_lem : (w : ℕ) → any_width w ≡ true → (0 < w) × (w ≤ 4)
@@ -138,19 +162,24 @@ any_width_lem w e = one (eqb w 1) refl
     one true f = let h : w ≡ 1 = eqb-true _ _ f in omega arith
     one false f = two f (eqb w 2) refl
 
+-- every width that is allowed somewhere
+pub allowed_width : (space : Space) (w : ℕ) → allows space w ≡ true → (0 < w) × (w ≤ 4)
+allowed_width Configuration w e = any_width_lem w e
+allowed_width Registers w e = let h : w ≡ 4 = eqb-true _ _ e in omega arith
+
+pub size_some : (space : Space) → 4 ≤ size_of space
+size_some Configuration = omega arith
+size_some Registers = omega arith
+
 pub connect_refusal : (h : Hub) (region : List ℕ) (id : ℕ) →
     refusal (world h region) (call id Act.connect) ≡ first (joining_rows h id)
 unfolding refusal first lent_to access_of wrong_region short_table missing present wrong_width misaligned outside forbidden is_connected
 connect_refusal h region id = refl
 
-pub joining_facts : (ws : List ℕ) (id r : ℕ) → r ≡ first (joining_rows (hub_of ws) id) →
-    (r ≡ first (joining_rows (hub_of ws) id)) × (r ≡ 0 → Admitted ws nothing_lent id)
-joining_facts ws id r e = (
-  e,
-  λ z.
-      let none = first_none (joining_rows (hub_of ws) id) refl (sym e ∙ z) in
-      known_caller ws nothing_lent id (none 0) (λ t. let z : ◌≡◌ {A = ℕ} 0 1 = cc in absurd (omega arith)) (none 1),
-)
+pub joining_facts : (ws : List ℕ) (id : ℕ) → 0 ≡ first (joining_rows (hub_of ws) id) → Admitted ws nothing_lent id
+joining_facts ws id e =
+    let none = first_none (joining_rows (hub_of ws) id) refl (sym e) in
+    known_caller ws nothing_lent id (none 0) tt (none 1)
 
 -- a peer that may connect has its slot at reset values, so that its registers are all that changes
 pub joining_slot : (ws : List ℕ) (id : ℕ) → first (joining_rows (hub_of ws) id) ≡ 0
@@ -163,32 +192,16 @@ joining_slot ws id e =
     ap (λ (slot : Slot). with_peer slot (reset_peer 1)) (absent_slot_lem (hub_of ws).settings (slot_at (hub_of ws) id) s (none 2) (entries_length ws id k))
 
 -- a range of the shared region that is not refused
-module _ (ws : List ℕ) (lent : Lending) (id at n r : ℕ)
-    (e : r ≡ first (admission (hub_of ws) lent id ++ range_rows (hub_of ws).settings at n)) where
-  range_inside : r ≡ 0 → InSection (hub_of ws).settings at n
-  range_inside z =
-      let parts = first_parts (admission (hub_of ws) lent id) (range_rows (hub_of ws).settings at n) refl (sym e ∙ z) in
-      let range = first_none (range_rows (hub_of ws).settings at n) refl parts.1 in
-      record {
-        some = positive_length (range 0);
-        fits = held_fits (hub_of ws).settings at n (not-false (somewhere (section_of (hub_of ws).settings at n)) (range 1));
-      }
-    where
-      positive_length : eqb n 0 ≡ false → 0 < n
-      positive_length f = let h : n ≡ 0 → ⊥ = eqb-false _ _ f in omega arith
-
-  pub range_facts :
-      (r ≡ first (admission (hub_of ws) lent id ++ range_rows (hub_of ws).settings at n))
-      × ((r ≡ 0 → Admitted ws lent id) × (r ≡ 0 → InSection (hub_of ws).settings at n))
-  range_facts = (
-    e,
-    (
-      λ z.
-          admitted_facts ws lent id
-          (first_parts (admission (hub_of ws) lent id) (range_rows (hub_of ws).settings at n) refl (sym e ∙ z)).0,
-      range_inside,
-    ),
-  )
+pub range_inside : (s : Settings) (at n : ℕ) → 0 ≡ first (range_rows s at n) → InSection s at n
+range_inside s at n e =
+    let range = first_none (range_rows s at n) refl (sym e) in
+    record {
+      some = positive_length (range 0);
+      fits = held_fits s at n (not-false (somewhere (section_of s at n)) (range 1));
+    }
+  where
+    positive_length : eqb n 0 ≡ false → 0 < n
+    positive_length f = let h : n ≡ 0 → ⊥ = eqb-false _ _ f in omega arith
 
 -- loads and stores, which are lent the region
 pub load_refusal : (h : Hub) (region : List ℕ) (id at n : ℕ) →
@@ -204,28 +217,6 @@ pub store_refusal : (h : Hub) (region : List ℕ) (id at : ℕ) (bs : List ℕ) 
     ++ store_rows h.settings id at (length bs))
 unfolding refusal first lent_to access_of wrong_region short_table missing present wrong_width misaligned outside forbidden is_connected
 store_refusal h region id at bs = refl
-
--- the last check of a store comes after those of its range
-pub store_facts : (ws : List ℕ) (lent : Lending) (id at n r : ℕ) →
-    r
-    ≡ first
-    ((admission (hub_of ws) lent id ++ range_rows (hub_of ws).settings at n) ++ store_rows (hub_of ws).settings id at n) →
-    (r
-    ≡ first
-    ((admission (hub_of ws) lent id ++ range_rows (hub_of ws).settings at n) ++ store_rows (hub_of ws).settings id at n))
-    × ((r ≡ 0 → Admitted ws lent id) × (r ≡ 0 → InSection (hub_of ws).settings at n))
-store_facts ws lent id at n r e =
-    let range : r ≡ 0 → 0 ≡ first (admission (hub_of ws) lent id ++ range_rows (hub_of ws).settings at n) =
-    λ z.
-    sym
-    (first_parts (admission (hub_of ws) lent id ++ range_rows (hub_of ws).settings at n)
-    (store_rows (hub_of ws).settings id at n) refl (sym e ∙ z)).0 in (
-      e,
-      (
-        λ z. (range_facts ws lent id at n 0 (range z)).1.0 refl,
-        λ z. (range_facts ws lent id at n 0 (range z)).1.1 refl,
-      ),
-    )
 
 -- the calls that are lent the region and a delivery table: reset and disconnect reach for nothing further
 pub served_refusal : (h : Hub) (region : List ℕ) (id n : ℕ) (act : Act) → lent_to act ≡ Lent.region_and_table n →

@@ -12,7 +12,9 @@ use Rattle.device.specs.World.{World, world}
 use Rattle.device.proofs.StepLaws.{refused_changes_nothing, accepted_effect}
 use Rattle.words.specs.Layout.{hub_of}
 use Rattle.hub.specs.Promises.{Answers, Changes}
-use Rattle.hub.proofs.RefusalLaws.{Checked}
+use Rattle.hub.specs.declared.reasons.Refusal.{Refusal}
+use Rattle.hub.specs.Answered.{number_of}
+use Rattle.hub.proofs.RefusalLaws.{Checked, number_some}
 
 abbrev pub refused_by : ℕ → Reply
 refused_by n = record { number = n; value = 0 }
@@ -39,33 +41,31 @@ pub question_accepted : (w : World) (c : Call) → refusal w c ≡ 0 →
 question_accepted w c e = sym (ap (λ (o : Outcome). section_reply_of o) (accepted_effect w c e))
 
 -- A read: refused, and accepted.
-pub answers_refused : (ws : List ℕ) (c : Call) (n : ℕ) (r : Reply) → Checked ws c n → (n ≡ 0 → ⊥) → r ≡ refused_by n →
-    Answers ws c r
-answers_refused ws c n r e some a = λ region. a ∙ reply_refused _ c n (e region) some
+pub answers_refused : (ws : List ℕ) (c : Call) (e : Refusal) → Checked ws c (number_of e) → Answers ws c (refused_by (number_of e))
+answers_refused ws c e n region = reply_refused _ c _ (n region) (number_some e)
 
-pub answers_accepted : (ws : List ℕ) (c : Call) (n value : ℕ) → Checked ws c n → n ≡ 0 →
+pub answers_accepted : (ws : List ℕ) (c : Call) (value : ℕ) → Checked ws c 0 →
     ((region : List ℕ) → value ≡ (effect_in (world (hub_of ws) region) c).value) →
     Answers ws c (record { number = 0; value = value })
-answers_accepted ws c n value e z v = λ region. reply_accepted _ c value (e region ∙ z) (v region)
+answers_accepted ws c value n v region = reply_accepted _ c value (n region) (v region)
 
 -- A call that changes the hub and is not lent the region: refused, and accepted.
-pub changes_refused : (ws : List ℕ) (c : Call) (n : ℕ) (r : Reply) → Checked ws c n → (n ≡ 0 → ⊥) → r ≡ refused_by n →
-    Changes ws ws c r
-changes_refused ws c n r e some a =
+pub changes_refused : (ws : List ℕ) (c : Call) (e : Refusal) → Checked ws c (number_of e) → Changes ws ws c (refused_by (number_of e))
+changes_refused ws c e n =
     record {
-      reply = λ region. a ∙ reply_refused _ c n (e region) some;
-      hub = λ region. sym (ap (λ (o : Outcome). o.world.hub) (step_refused _ c n (e region) some));
+      reply = answers_refused ws c e n;
+      hub = λ region. sym (ap (λ (o : Outcome). o.world.hub) (step_refused _ c _ (n region) (number_some e)));
       kept = λ p. refl;
     }
 
-pub changes_accepted : (before after : List ℕ) (c : Call) (n : ℕ) (r : Reply) → Checked before c n → n ≡ 0 → r ≡ refused_by 0 →
+pub changes_accepted : (before after : List ℕ) (c : Call) → Checked before c 0 →
     ((region : List ℕ) → 0 ≡ (effect_in (world (hub_of before) region) c).value) →
     ((region : List ℕ) →
     hub_of after ≡ (run_all c.who (world (hub_of before) region) (effect_in (world (hub_of before) region) c).operations).world.hub) →
-    Changes before after c r
-changes_accepted before after c n r e z a value hub =
+    Changes before after c (refused_by 0)
+changes_accepted before after c n value hub =
     record {
-      reply = λ region. a ∙ reply_accepted _ c 0 (e region ∙ z) (value region);
-      hub = λ region. hub region ∙ sym (ap (λ (o : Outcome). o.world.hub) (accepted_effect _ c (e region ∙ z)));
-      kept = λ p. absurd (p (ap (λ (x : Reply). x.number) a));
+      reply = answers_accepted before c 0 n value;
+      hub = λ region. hub region ∙ sym (ap (λ (o : Outcome). o.world.hub) (accepted_effect _ c (n region)));
+      kept = λ p. absurd (p refl);
     }

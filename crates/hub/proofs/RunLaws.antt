@@ -3,19 +3,19 @@ use Prim.Native.Nat.{ℕ}
 use mathlib.Core.Bool.{Bool, true, false, cond}
 use mathlib.Core.List.{List, [], ◌∷◌, append-nil}
 use mathlib.Core.Path.{◌≡◌, refl, sym, ap, ◌∙◌}
+use Rattle.std.specs.Prelude.{Ok, Err}
+use Rattle.common.specs.Tests.{first}
 use native.Mathlib.Omega.{arith}
 use lib.ListN.{length}
 use lib.Dec.{eqb}
 use lib.Seq.{sets}
 use borrow.Author.Tests.{ne_eqb}
-use Rattle.common.proofs.TestLaws.{by_equal}
 use Rattle.device.specs.declared.PeerId.{PeerId}
-use Rattle.device.specs.declared.Reply.{Reply}
 use Rattle.device.specs.declared.Settings.{Settings}
 use Rattle.device.specs.declared.Vector.{Vector}
-use Rattle.device.specs.Call.{Act, Call, call}
-use Rattle.device.specs.Effect.{Effect, Operation, announces, does, effect, register_stored}
-use Rattle.device.specs.Refusal.{Access, Lent, access_of, lent_to, refusal}
+use Rattle.device.specs.Call.{Call, call}
+use Rattle.device.specs.Effect.{Operation, announces, does, effect, register_stored}
+use Rattle.device.specs.Refusal.{access_of, lent_to, refusal}
 use Rattle.device.specs.Registers.{Register, register_at}
 use Rattle.device.specs.Ring
 use Rattle.device.specs.SetUp.{total}
@@ -27,19 +27,22 @@ use Rattle.deliveries.specs.declared.Deliveries.{Deliveries}
 use Rattle.deliveries.specs.Listed.{Lists}
 use Rattle.deliveries.proofs.ListedLaws.{none_lists}
 use Rattle.words.specs.Layout.{hub_of}
-use Rattle.hub.specs.declared.Restarted.{Restarted}
-use Rattle.hub.specs.declared.Served.{Served}
-use Rattle.hub.specs.Admission.{both_lent, Admitted, Ready}
-use Rattle.hub.specs.Promises.{Restarts, Runs, Serves, Told}
-use Rattle.hub.proofs.RefusalLaws.{served_refusal}
-use Rattle.hub.proofs.ReplyLaws.{refused_by, step_refused, reply_refused, reply_accepted}
+use Rattle.hub.specs.declared.announcing.Restart.{Restart}
+use Rattle.hub.specs.declared.announcing.Restart.TheVariants.{Reset, Disconnect}
+use Rattle.hub.specs.declared.reasons.Refusal.{Refusal}
+use Rattle.hub.specs.Answered.{number_of}
+use Rattle.hub.specs.Admission.{both_lent, admission, Admitted, Ready}
+use Rattle.hub.specs.Promises.{Runs, Serves}
+use Rattle.hub.specs.Restarts.{connected, restarted}
+use Rattle.hub.proofs.RefusalLaws.{number_some, served_refusal}
+use Rattle.hub.proofs.ReplyLaws.{step_refused, reply_refused, reply_accepted}
 
 -- an admitted caller that is lent the region has a State Table entry there
 pub ready : (ws region : List ℕ) (records id : ℕ) → Admitted ws (both_lent (length region) records) id → Ready ws region id
 unfolding total
 ready ws region records id a =
     let f = accepted_facts (hub_of ws).settings a.numbers in
-    let t : length region ≡ total (hub_of ws).settings = a.region refl in
+    let t : length region ≡ total (hub_of ws).settings = a.region in
     record {
       usable = record { numbers = a.numbers };
       known = a.known;
@@ -89,53 +92,42 @@ pub runs_own_then : (ws mid after region after' : List ℕ) (id : ℕ) (slot : S
 unfolding run_all run
 runs_own_then ws mid after region after' id slot os d e r = record { left = rw e at r.left; list = rw e at r.list }
 
-pub serves_refused : (ws region : List ℕ) (c : Call) (n : ℕ) (r : Served) → refusal (world (hub_of ws) region) c ≡ n → (n ≡ 0 → ⊥) →
-    r.reply ≡ refused_by n → r.list.count ≡ 0 → Serves ws ws region region c r
-serves_refused ws region c n r e some a none =
-    let s = step_refused (world (hub_of ws) region) c n e some in
+pub serves_refused : (ws region : List ℕ) (c : Call) (e : Refusal) → refusal (world (hub_of ws) region) c ≡ number_of e →
+    Serves ws ws region region c (Err e)
+serves_refused ws region c e n =
+    let s = step_refused (world (hub_of ws) region) c _ n (number_some e) in
     record {
-      reply = a ∙ reply_refused _ c n e some;
+      reply = reply_refused _ c _ n (number_some e);
       left = sym (ap (λ (o : Outcome). o.world) s);
-      list = rw s (none_lists (hub_of ws) r.list none);
-      kept = λ p. refl;
+      list = ap (λ (o : Outcome). o.deliveries) s;
+      kept = refl;
     }
 
-pub serves_accepted : (ws after region after' : List ℕ) (c : Call) (r : Served) → refusal (world (hub_of ws) region) c ≡ 0 →
-    0 ≡ (effect_in (world (hub_of ws) region) c).value → r.reply ≡ refused_by 0 →
-    Runs ws after region after' c.who (effect_in (world (hub_of ws) region) c).operations r.list →
-    Serves ws after region after' c r
-serves_accepted ws after region after' c r e value a runs =
-    let s = accepted_effect (world (hub_of ws) region) c e in
+pub serves_accepted : (ws after region after' : List ℕ) (c : Call) (list : Deliveries) → refusal (world (hub_of ws) region) c ≡ 0 →
+    0 ≡ (effect_in (world (hub_of ws) region) c).value →
+    Runs ws after region after' c.who (effect_in (world (hub_of ws) region) c).operations list →
+    Serves ws after region after' c (Ok list)
+serves_accepted ws after region after' c list n value runs =
+    let s = accepted_effect (world (hub_of ws) region) c n in
     record {
-      reply = a ∙ reply_accepted _ c 0 e value;
+      reply = reply_accepted _ c 0 n value;
       left = runs.left ∙ sym (ap (λ (o : Outcome). o.world) s);
       list = rw s runs.list;
-      kept = λ p. absurd (p (ap (λ (x : Reply). x.number) a));
+      kept = tt;
     }
 
--- a peer's slot at reset leaves hub and region ready for the rest of the call
-pub restarts_ready : (ws mid region : List ℕ) (records id connected : ℕ) (n : Restarted)
-    → Restarts ws mid (length region) records id connected n → n.number ≡ 0 → Ready mid region id
-restarts_ready ws mid region records id connected n own z =
-    ready_kept ws mid region id (reset_slot (hub_of ws).settings.vectors connected) (ready ws region records id (own.admitted z)) (own.slot z)
+-- reset and disconnect have the same checks, and their effect is the slot at reset, the State Table entry and the rings
+pub restarted_refusal : (h : Hub) (region : List ℕ) (id n : ℕ) (why : Restart) →
+    refusal (world h region) (call id (restarted why n)) ≡ first (admission h (both_lent (length region) n) id)
+unfolding lent_to access_of
+restarted_refusal h region id n Reset = served_refusal h region id n _ refl refl
+restarted_refusal h region id n Disconnect = served_refusal h region id n _ refl refl
 
--- reset and disconnect: whichever act it is, the slot, the State Table entry and the rings are together its effect
-pub restarts_served : (ws mid after region after' : List ℕ) (records id connected : ℕ) (n : Restarted) (act : Act) (r : Served)
-    → Restarts ws mid (length region) records id connected n → Told mid after region after' id n r → lent_to act
-    ≡ Lent.region_and_table records → access_of act ≡ Access.none
-    → ((s : Settings) (who : ℕ) (slot : Slot) (bytes : List ℕ) → effect s who slot bytes act ≡ does (announces who slot (reset_slot s.vectors connected)))
-    → Serves ws after region after' (call id act) r
-unfolding announces reset_slot
-restarts_served ws mid after region after' records id connected n act r own told lent access is =
-    let number = served_refusal (hub_of ws) region id records act lent access ∙ sym own.number in
-    by_equal n.number 0
-    (λ z.
-    serves_accepted ws after region after' (call id act) r (number ∙ z) (sym (ap (λ (e : Effect). e.value) (is _ _ _ _))) (told.reply ∙ ap refused_by z)
-    (rw is (runs_own_then ws mid after region after' id _ _ r.list (own.slot z) (rw (own.changed z) at (told.runs z)))))
-    (λ some.
-    let same = told.refused some in
-    let e : after ≡ ws = same.0 ∙ own.refused some in
-    rw (e, same.1) (serves_refused ws region (call id act) n.number r number some told.reply same.2))
+pub restarted_effect : (s : Settings) (who n : ℕ) (slot : Slot) (bytes : List ℕ) (why : Restart) →
+    effect s who slot bytes (restarted why n) ≡ does (announces who slot (reset_slot s.vectors (connected why)))
+unfolding effect
+restarted_effect s who n slot bytes Reset = refl
+restarted_effect s who n slot bytes Disconnect = refl
 
 -- a store to any other offset than the three registers' does nothing
 pub nothing_stored : (who : ℕ) (slot : Slot) (at x : ℕ) → (at ≡ 0x08 → ⊥) → (at ≡ 0x0C → ⊥) → (at ≡ 0x10 → ⊥) →

@@ -1,4 +1,6 @@
 pub mod Admission
+pub mod Answered
 pub mod Promises
 pub mod Queries
 pub mod Reads
+pub mod Restarts

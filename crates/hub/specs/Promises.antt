@@ -1,19 +1,17 @@
 -- What the public calls promise: their answers, and what they leave, are the parts of `step`.
-use Rattle.std.specs.Prelude.{ℕ, List, ◌≡◌, eqb, length, replicate}
-use Rattle.common.specs.Tests.{first}
+use Rattle.std.specs.Prelude.{ℕ, List, [], ◌≡◌, eqb, length, replicate, Result, MatchResult, OnErr}
 use Rattle.device.specs.declared.Reply.{Reply}
 use Rattle.device.specs.declared.SectionReply.{SectionReply}
 use Rattle.device.specs.declared.Settings.{Settings}
 use Rattle.device.specs.Call.{Call}
-use Rattle.device.specs.Effect.{Operation, changes, entered}
+use Rattle.device.specs.Effect.{Operation}
 use Rattle.device.specs.SetUp.{set_up_refusal, hub_after_set_up, region_after_set_up}
 use Rattle.device.specs.Step.{run_all, step, reply_of, section_reply_of}
-use Rattle.device.specs.World.{reset_slot, slot_at, with_slot, world}
+use Rattle.device.specs.World.{world}
 use Rattle.deliveries.specs.declared.Deliveries.{Deliveries}
 use Rattle.deliveries.specs.Listed.{Lists}
-use Rattle.hub.specs.declared.Restarted.{Restarted}
-use Rattle.hub.specs.declared.Served.{Served}
-use Rattle.hub.specs.Admission.{admission, both_lent, Admitted}
+use Rattle.hub.specs.declared.reasons.Refusal.{Refusal}
+use Rattle.hub.specs.Answered.{done_reply}
 use Rattle.words.specs.Layout.{hub_words, hub_of}
 
 -- A read: the region is not lent, and the answer is the same whatever it holds.
@@ -69,25 +67,11 @@ pub record Runs (hub after region region_after : List ℕ) (id : ℕ) (operation
   pub list : Lists (hub_of after) d (run_all id (world (hub_of hub) region) operations).deliveries
 
 -- A call that is lent the region and a delivery table, whose length is among the call's arguments: hub and region afterwards are
--- the step's, the list is the step's deliveries in order, its records made from the hub afterwards, and a refusal leaves each word
--- as it was.
-pub record Serves (hub after region region_after : List ℕ) (c : Call) (r : Served) : Type 0 where
-  pub reply : r.reply ≡ reply_of (step (world (hub_of hub) region) c)
+-- the step's, the list is the step's deliveries in order, its records made from the hub afterwards. A refusal leaves each word as it
+-- was and delivers nothing.
+pub record Serves (hub after region region_after : List ℕ) (c : Call) (r : Result Deliveries Refusal) : Type 0 where
+  pub reply : done_reply r ≡ reply_of (step (world (hub_of hub) region) c)
   pub left : world (hub_of after) region_after ≡ (step (world (hub_of hub) region) c).world
-  pub list : Lists (hub_of after) r.list (step (world (hub_of hub) region) c).deliveries
-  pub kept : (r.reply.number ≡ 0 → ⊥) → after ≡ hub
-
--- Reset and disconnect, which differ in whether the peer stays, up to the State Table entry: a refusal changes nothing, else the
--- peer's slot is at its reset values, and State changes where it was not 0.
-pub record Restarts (hub after : List ℕ) (room records id connected : ℕ) (r : Restarted) : Type 0 where
-  pub number : r.number ≡ first (admission (hub_of hub) (both_lent room records) id)
-  pub refused : (r.number ≡ 0 → ⊥) → after ≡ hub
-  pub admitted : r.number ≡ 0 → Admitted hub (both_lent room records) id
-  pub slot : r.number ≡ 0 → hub_of after ≡ with_slot (hub_of hub) id (reset_slot (hub_of hub).settings.vectors connected)
-  pub changed : r.number ≡ 0 → r.changed ≡ changes (slot_at (hub_of hub) id).peer.state 0
-
--- The rest of such a call: nothing where its number is a refusal's, else the entry and the rings.
-pub record Told (hub after region region_after : List ℕ) (id : ℕ) (own : Restarted) (r : Served) : Type 0 where
-  pub reply : r.reply ≡ record { number = own.number; value = 0 }
-  pub refused : (own.number ≡ 0 → ⊥) → (after ≡ hub) × (region_after ≡ region) × (r.list.count ≡ 0)
-  pub runs : own.number ≡ 0 → Runs hub after region region_after id (entered id 0 own.changed) r.list
+  pub list : MatchResult r (λ list. Lists (hub_of after) list (step (world (hub_of hub) region) c).deliveries)
+      (λ e. (step (world (hub_of hub) region) c).deliveries ≡ [])
+  pub kept : OnErr r (after ≡ hub)

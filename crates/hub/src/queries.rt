@@ -1,29 +1,27 @@
 // Questions of the host: is this memory a sound hub, and is this peer connected?
-ghost use Rattle.std.specs.Prelude.{◌≡◌, cond};
+ghost use Rattle.std.specs.Prelude.{◌≡◌};
 ghost use Rattle.device.specs.Sound.{sound};
 ghost use Rattle.words.specs.Layout.{hub_of};
+ghost use Rattle.hub.specs.Answered.{flag_reply};
 ghost use Rattle.hub.specs.Queries.{connected_answer};
 
-use super::{joining, refusals};
-use device::Reply;
+use super::{Refusal, joining};
 
-pub fn is_sound(hub: &[u32]) -> u32
-    ensures { result ≡ cond (sound (hub_of hub.now)) 1 0 }
+pub fn is_sound(hub: &[u32]) -> bool
+    ensures { result ≡ sound (hub_of hub.now) }
 {
-    let ok = soundness::sound(hub);
-    if ok { 1 } else { 0 }
+    soundness::sound(hub)
 }
 
 // The checks are those of a connect, which a connected peer is refused with 5.
-pub fn is_connected(hub: &[u32], id: u64) -> Reply
-    ensures { result ≡ connected_answer (hub_of hub.now) id }
+pub fn is_connected(hub: &[u32], id: u64) -> Result<bool, Refusal>
+    ensures { flag_reply result ≡ connected_answer (hub_of hub.now) id }
 {
-    let number = joining::joining_refusal(hub, id);
-    if number == 5 {
-        return Reply {
-            number: 0,
-            value: 1,
-        };
+    match joining::joining_refusal(hub, id) {
+        Ok(()) => Ok(false),
+        Err(refusal) => match refusal {
+            Refusal::Connected => Ok(true),
+            _ => Err(refusal),
+        },
     }
-    refusals::answered(number)
 }

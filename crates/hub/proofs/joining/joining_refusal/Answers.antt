@@ -9,41 +9,37 @@ use Rattle.words.specs.Layout.{hub_of}
 use Rattle.hub.proofs.RefusalLaws.{joining_facts}
 use Rattle.hub.proofs.joining.joining_refusal.Goals as goal
 
-pub returns-then-not-ok : goal.returns-then-not-ok
+pub returns-then-not-sound-clause-is : goal.returns-then-not-sound-clause-is
 unfolding first
-returns-then-not-ok c =
-    let a = c.args in
-    let s : sound (hub_of a.hub.now) ≡ false = sym c.sound-ok.ensures ∙ c.if-not-ok.true in let r = joining_facts a.hub.now a.id _ (rw s) in
-    record { is = r.0; facts = r.1 }
+returns-then-not-sound-clause-is c =
+    let s : sound (hub_of c.args.hub.now) ≡ false = sym c.sound.ensures ∙ c.if-not-sound.true in
+    rw s
 
 pub settings-s-requires : goal.settings-s-requires
-settings-s-requires c = sound_room _ (sym c.sound-ok.ensures ∙ c.if-not-ok.false)
+settings-s-requires c = sound_room _ (sym c.sound.ensures ∙ c.if-not-sound.false)
 
-pub returns-then-s-id : goal.returns-then-s-id
+pub returns-then-s-id-clause-is : goal.returns-then-s-id-clause-is
 unfolding first
-returns-then-s-id c =
-    let a = c.args in
-    let s : sound (hub_of a.hub.now) ≡ true = sym c.sound-ok.ensures ∙ c.if-not-ok.false in
-    let three = rw c.settings-s.ensures at c.if-s-id.true in let r = joining_facts a.hub.now a.id _ (rw (s, le-leb _ _ three)) in
-    record { is = r.0; facts = r.1 }
+returns-then-s-id-clause-is c =
+    let s : sound (hub_of c.args.hub.now) ≡ true = sym c.sound.ensures ∙ c.if-not-sound.false in
+    let three = rw c.settings-s.ensures at c.if-s-id.true in
+    rw (s, le-leb _ _ three)
 
-pub peer-p-requires : goal.peer-p-requires
-peer-p-requires c = rw c.settings-s.ensures at c.if-s-id.false
-
-pub returns-then-p-eq1 : goal.returns-then-p-eq1
+pub returns-then-p-eq1-clause-is : goal.returns-then-p-eq1-clause-is
 unfolding first
-returns-then-p-eq1 c =
-    let a = c.args in
-    let s : sound (hub_of a.hub.now) ≡ true = sym c.sound-ok.ensures ∙ c.if-not-ok.false in
+returns-then-p-eq1-clause-is c =
+    let s : sound (hub_of c.args.hub.now) ≡ true = sym c.sound.ensures ∙ c.if-not-sound.false in
     let three = rw c.settings-s.ensures at c.if-s-id.false in
-    let five = rw c.peer-p.ensures at c.if-p-eq1.true in let r = joining_facts a.hub.now a.id _ (rw (s, lt-leb _ _ three, eq-eqb _ _ five)) in
-    record { is = r.0; facts = r.1 }
+    let five = rw c.peer-p.ensures at c.if-p-eq1.true in
+    rw (s, lt-leb _ _ three, eq-eqb _ _ five)
 
-pub returns : goal.returns
+pub returns-clause-is : goal.returns-clause-is
 unfolding first
-returns c =
-    let a = c.args in
-    let s : sound (hub_of a.hub.now) ≡ true = sym c.sound-ok.ensures ∙ c.if-not-ok.false in
+returns-clause-is c =
+    let s : sound (hub_of c.args.hub.now) ≡ true = sym c.sound.ensures ∙ c.if-not-sound.false in
     let three = rw c.settings-s.ensures at c.if-s-id.false in
-    let five = rw c.peer-p.ensures at c.if-p-eq1.false in let r = joining_facts a.hub.now a.id _ (rw (s, lt-leb _ _ three, ne_eqb _ _ five)) in
-    record { is = r.0; facts = r.1 }
+    let five = rw c.peer-p.ensures at c.if-p-eq1.false in
+    rw (s, lt-leb _ _ three, ne_eqb _ _ five)
+
+pub returns-clause-facts : goal.returns-clause-facts
+returns-clause-facts c = joining_facts _ _ (returns-clause-is c)

@@ -6,74 +6,70 @@ use Rattle.common.specs.Tests.{first}
 use Rattle.device.specs.Sound.{sound}
 use Rattle.soundness.proofs.WholeLaws.{sound_numbers, sound_room}
 use Rattle.words.specs.Layout.{hub_of}
-use Rattle.hub.proofs.RefusalLaws.{with_facts}
+use Rattle.hub.proofs.RefusalLaws.{admitted_facts}
 use Rattle.hub.proofs.refusals.admitted.Goals as goal
 
-pub returns-then-not-ok : goal.returns-then-not-ok
+pub returns-then-not-sound-clause-is : goal.returns-then-not-sound-clause-is
 unfolding first
-returns-then-not-ok c =
-    let a = c.args in
-    let s : sound (hub_of c.args.hub.now) ≡ false = sym c.sound-ok.ensures ∙ c.if-not-ok.true in let r = with_facts a.hub.now a.lent a.id _ (rw s) in
-    record { is = r.0; facts = r.1 }
+returns-then-not-sound-clause-is c =
+    let s : sound (hub_of c.args.hub.now) ≡ false = sym c.sound.ensures ∙ c.if-not-sound.true in
+    rw s
 
-pub settings-s-requires : goal.settings-s-requires
-settings-s-requires c =
-    let s : sound (hub_of c.args.hub.now) ≡ true = sym c.sound-ok.ensures ∙ c.if-not-ok.false in
-    sound_room _ s
+pub settings-settings-requires : goal.settings-settings-requires
+settings-settings-requires c = sound_room _ (sym c.sound.ensures ∙ c.if-not-sound.false)
 
-pub total-total-requires : goal.total-total-requires
-total-total-requires c =
-    let s : sound (hub_of c.args.hub.now) ≡ true = sym c.sound-ok.ensures ∙ c.if-not-ok.false in
-    rw c.settings-s.ensures (sound_numbers _ s)
+pub total-requires : goal.total-requires
+total-requires c =
+    rw c.settings-settings.ensures (sound_numbers _ (sym c.sound.ensures ∙ c.if-not-sound.false))
 
-pub returns-then-wrong : goal.returns-then-wrong
+pub returns-then-has_other_length-clause-is : goal.returns-then-has_other_length-clause-is
 unfolding first
-returns-then-wrong c =
-    let a = c.args in
-    let s : sound (hub_of c.args.hub.now) ≡ true = sym c.sound-ok.ensures ∙ c.if-not-ok.false in
-    let two = rw (c.total-total.ensures, c.settings-s.ensures) at c.if-wrong.true in let r = with_facts a.hub.now a.lent a.id _ (rw (s, two)) in
-    record { is = r.0; facts = r.1 }
+returns-then-has_other_length-clause-is c =
+    let s : sound (hub_of c.args.hub.now) ≡ true = sym c.sound.ensures ∙ c.if-not-sound.false in
+    let two = rw (c.has_other_length.ensures, c.total.ensures, c.settings-settings.ensures) at c.if-has_other_length.true in
+    rw (s, two)
 
-pub returns-then-short : goal.returns-then-short
+pub returns-then-has_fewer_records-clause-is : goal.returns-then-has_fewer_records-clause-is
 unfolding first
-returns-then-short c =
-    let a = c.args in
-    let s : sound (hub_of c.args.hub.now) ≡ true = sym c.sound-ok.ensures ∙ c.if-not-ok.false in
-    let two = rw (c.total-total.ensures, c.settings-s.ensures) at c.if-wrong.false in
-    let eleven = rw c.settings-s.ensures at c.if-short.true in let r = with_facts a.hub.now a.lent a.id _ (rw (s, two, eleven)) in
-    record { is = r.0; facts = r.1 }
+returns-then-has_fewer_records-clause-is c =
+    let s : sound (hub_of c.args.hub.now) ≡ true = sym c.sound.ensures ∙ c.if-not-sound.false in
+    let two = rw (c.has_other_length.ensures, c.total.ensures, c.settings-settings.ensures) at c.if-has_other_length.false in
+    let eleven = rw (c.has_fewer_records.ensures, c.settings-settings.ensures) at c.if-has_fewer_records.true in
+    rw (s, two, eleven)
 
-pub returns-then-s-id : goal.returns-then-s-id
+pub returns-then-settings-id-clause-is : goal.returns-then-settings-id-clause-is
 unfolding first
-returns-then-s-id c =
-    let a = c.args in
-    let s : sound (hub_of c.args.hub.now) ≡ true = sym c.sound-ok.ensures ∙ c.if-not-ok.false in
-    let two = rw (c.total-total.ensures, c.settings-s.ensures) at c.if-wrong.false in
-    let eleven = rw c.settings-s.ensures at c.if-short.false in
-    let three = rw c.settings-s.ensures at c.if-s-id.true in let r = with_facts a.hub.now a.lent a.id _ (rw (s, two, eleven, le-leb _ _ three)) in
-    record { is = r.0; facts = r.1 }
+returns-then-settings-id-clause-is c =
+    let s : sound (hub_of c.args.hub.now) ≡ true = sym c.sound.ensures ∙ c.if-not-sound.false in
+    let two = rw (c.has_other_length.ensures, c.total.ensures, c.settings-settings.ensures) at c.if-has_other_length.false in
+    let eleven = rw (c.has_fewer_records.ensures, c.settings-settings.ensures) at c.if-has_fewer_records.false in
+    let three = rw c.settings-settings.ensures at c.if-settings-id.true in
+    rw (s, two, eleven, le-leb _ _ three)
 
-pub peer-p-requires : goal.peer-p-requires
-peer-p-requires c = rw c.settings-s.ensures at c.if-s-id.false
-
-pub returns-then-p-ne1 : goal.returns-then-p-ne1
+pub returns-then-peer-ne1-clause-is : goal.returns-then-peer-ne1-clause-is
 unfolding first
-returns-then-p-ne1 c =
-    let a = c.args in
-    let s : sound (hub_of c.args.hub.now) ≡ true = sym c.sound-ok.ensures ∙ c.if-not-ok.false in
-    let two = rw (c.total-total.ensures, c.settings-s.ensures) at c.if-wrong.false in
-    let eleven = rw c.settings-s.ensures at c.if-short.false in
-    let three = rw c.settings-s.ensures at c.if-s-id.false in
-    let four = rw c.peer-p.ensures at c.if-p-ne1.true in let r = with_facts a.hub.now a.lent a.id _ (rw (s, two, eleven, lt-leb _ _ three, ne_eqb _ _ four)) in
-    record { is = r.0; facts = r.1 }
+returns-then-peer-ne1-clause-is c =
+    let s : sound (hub_of c.args.hub.now) ≡ true = sym c.sound.ensures ∙ c.if-not-sound.false in
+    let two = rw (c.has_other_length.ensures, c.total.ensures, c.settings-settings.ensures) at c.if-has_other_length.false in
+    let eleven = rw (c.has_fewer_records.ensures, c.settings-settings.ensures) at c.if-has_fewer_records.false in
+    let three = rw c.settings-settings.ensures at c.if-settings-id.false in
+    let four = rw c.peer-peer.ensures at c.if-peer-ne1.true in
+    rw (s, two, eleven, lt-leb _ _ three, ne_eqb _ _ four)
 
-pub returns : goal.returns
+pub returns-clause-is : goal.returns-clause-is
 unfolding first
-returns c =
-    let a = c.args in
-    let s : sound (hub_of c.args.hub.now) ≡ true = sym c.sound-ok.ensures ∙ c.if-not-ok.false in
-    let two = rw (c.total-total.ensures, c.settings-s.ensures) at c.if-wrong.false in
-    let eleven = rw c.settings-s.ensures at c.if-short.false in
-    let three = rw c.settings-s.ensures at c.if-s-id.false in
-    let four = rw c.peer-p.ensures at c.if-p-ne1.false in let r = with_facts a.hub.now a.lent a.id _ (rw (s, two, eleven, lt-leb _ _ three, eq-eqb _ _ four)) in
-    record { is = r.0; facts = r.1 }
+returns-clause-is c =
+    let s : sound (hub_of c.args.hub.now) ≡ true = sym c.sound.ensures ∙ c.if-not-sound.false in
+    let two = rw (c.has_other_length.ensures, c.total.ensures, c.settings-settings.ensures) at c.if-has_other_length.false in
+    let eleven = rw (c.has_fewer_records.ensures, c.settings-settings.ensures) at c.if-has_fewer_records.false in
+    let three = rw c.settings-settings.ensures at c.if-settings-id.false in
+    let four = rw c.peer-peer.ensures at c.if-peer-ne1.false in
+    rw (s, two, eleven, lt-leb _ _ three, eq-eqb _ _ four)
+
+pub returns-clause-found : goal.returns-clause-found
+returns-clause-found c =
+    record {
+      admitted = admitted_facts _ _ _ (sym (returns-clause-is c));
+      settings = c.settings-settings.ensures;
+      peer = c.peer-peer.ensures;
+    }

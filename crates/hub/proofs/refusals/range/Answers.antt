@@ -3,19 +3,18 @@ use borrow.Author.Tests.{eq-eqb, ne_eqb}
 use Rattle.common.specs.Tests.{first}
 use Rattle.hub.proofs.refusals.range.Goals as goal
 
-pub returns-then-length-eq0 : goal.returns-then-length-eq0
+pub returns-then-range-eq0-clause-is : goal.returns-then-range-eq0-clause-is
 unfolding first
-returns-then-length-eq0 c = rw (eq-eqb _ _ c.if-length-eq0.true)
+returns-then-range-eq0-clause-is c = rw (eq-eqb _ _ c.if-range-eq0.true)
 
-pub returns-then-not-inside : goal.returns-then-not-inside
+pub returns-then-not-is_somewhere-clause-is : goal.returns-then-not-is_somewhere-clause-is
 unfolding first
-returns-then-not-inside c =
-    let out = rw (c.is_somewhere-inside.ensures, c.section_of.ensures) at c.if-not-inside.true in
-    rw (ne_eqb _ _ c.if-length-eq0.false, out)
+returns-then-not-is_somewhere-clause-is c =
+    let out = rw (c.is_somewhere.ensures, c.section_of-kind.ensures) at c.if-not-is_somewhere.true in
+    rw (ne_eqb _ _ c.if-range-eq0.false, out)
 
-pub returns : goal.returns
+pub returns-clause-is : goal.returns-clause-is
 unfolding first
-returns c =
-    let inside = rw (c.is_somewhere-inside.ensures, c.section_of.ensures)
-    at c.if-not-inside.false in
-    rw (ne_eqb _ _ c.if-length-eq0.false, inside)
+returns-clause-is c =
+    let inside = rw (c.is_somewhere.ensures, c.section_of-kind.ensures) at c.if-not-is_somewhere.false in
+    rw (ne_eqb _ _ c.if-range-eq0.false, inside)

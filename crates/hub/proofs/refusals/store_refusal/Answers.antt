@@ -1,60 +1,36 @@
 -- `hub::refusals::store_refusal` meets its contract: the right to store is asked last.
 use mathlib.Core.List.{◌++◌}
-use mathlib.Core.Path.{refl, sym, ◌∙◌}
-use Rattle.common.proofs.TestLaws.{first_stops, first_goes_on}
+use mathlib.Core.Path.{refl}
 use Rattle.common.specs.Tests.{first}
-use Rattle.hub.specs.Admission.{admission, range_rows, store_rows}
+use Rattle.std.proofs.lemmas.Result.{err_from_is_err_and}
 use Rattle.words.specs.Layout.{hub_of}
-use Rattle.hub.proofs.RefusalLaws.{store_facts}
+use Rattle.hub.specs.Admission.{admission, range_rows, store_rows}
+use Rattle.hub.proofs.RefusalLaws.{stops, goes_on}
 use Rattle.hub.proofs.refusals.store_refusal.Goals as goal
 
-pub returns-then-number-ne0 : goal.returns-then-number-ne0
-returns-then-number-ne0 c =
+pub returns-in_err-kind-clause-is : goal.returns-in_err-kind-clause-is
+returns-in_err-kind-clause-is c =
     let a = c.args in
-    let h = hub_of a.hub.now in
-    let e = c.range_refusal-number.ensures.is in let r = store_facts a.hub.now a.lent a.id a.offset a.length _
-    (e ∙ sym (first_stops (admission h a.lent a.id ++ range_rows h.settings a.offset a.length)
-    (store_rows h.settings a.id a.offset a.length) (λ z. c.if-number-ne0.true (e ∙ z)))) in
-    record { is = r.0; caller = r.1.0; access = r.1.1 }
+    let s = (hub_of a.hub.now).settings in
+    let p = err_from_is_err_and c.from_residual.result c.from_residual.ensures.1 in
+    rw (p.1, p.2)
+    (stops (admission (hub_of a.hub.now) a.lent a.id ++ range_rows s a.within.offset a.within.size)
+    (store_rows s a.id a.within.offset a.within.size) _ c.in_err-kind.ensures.is)
 
-pub settings-requires : goal.settings-requires
-settings-requires c = (c.range_refusal-number.ensures.caller c.if-number-ne0.false).room
-
-pub section_of-requires : goal.section_of-requires
-section_of-requires c = record { numbers = rw c.settings.ensures (c.range_refusal-number.ensures.caller c.if-number-ne0.false).numbers; range = (c.range_refusal-number.ensures.access c.if-number-ne0.false).some }
-
-pub returns-then-not-allowed : goal.returns-then-not-allowed
+pub returns-then-not-may_store-clause-is : goal.returns-then-not-may_store-clause-is
 unfolding first
-returns-then-not-allowed c =
+returns-then-not-may_store-clause-is c =
     let a = c.args in
-    let h = hub_of a.hub.now in
-    let e = c.range_refusal-number.ensures.is in
-    let no = rw (
-      c.may_store-allowed.ensures,
-      c.section_of.ensures,
-      c.settings.ensures,
-    ) at c.if-not-allowed.true in let r = store_facts a.hub.now a.lent a.id a.offset a.length _
-    (rw (
-      first_goes_on (admission h a.lent a.id ++ range_rows h.settings a.offset a.length)
-          (store_rows h.settings a.id a.offset a.length) refl (sym e ∙ c.if-number-ne0.false),
-      no,
-    )) in
-    record { is = r.0; caller = r.1.0; access = r.1.1 }
+    let s = (hub_of a.hub.now).settings in
+    let no = rw (c.may_store.ensures, c.in_ok-kind.ensures.section) at c.if-not-may_store.true in
+    goes_on (admission (hub_of a.hub.now) a.lent a.id ++ range_rows s a.within.offset a.within.size)
+    (store_rows s a.id a.within.offset a.within.size) 9 refl c.in_ok-kind.ensures.is (rw no)
 
-pub returns : goal.returns
+pub returns-clause-is : goal.returns-clause-is
 unfolding first
-returns c =
+returns-clause-is c =
     let a = c.args in
-    let h = hub_of a.hub.now in
-    let e = c.range_refusal-number.ensures.is in
-    let may = rw (
-      c.may_store-allowed.ensures,
-      c.section_of.ensures,
-      c.settings.ensures,
-    ) at c.if-not-allowed.false in let r = store_facts a.hub.now a.lent a.id a.offset a.length _
-    (rw (
-      first_goes_on (admission h a.lent a.id ++ range_rows h.settings a.offset a.length)
-          (store_rows h.settings a.id a.offset a.length) refl (sym e ∙ c.if-number-ne0.false),
-      may,
-    )) in
-    record { is = r.0; caller = r.1.0; access = r.1.1 }
+    let s = (hub_of a.hub.now).settings in
+    let may = rw (c.may_store.ensures, c.in_ok-kind.ensures.section) at c.if-not-may_store.false in
+    goes_on (admission (hub_of a.hub.now) a.lent a.id ++ range_rows s a.within.offset a.within.size)
+    (store_rows s a.id a.within.offset a.within.size) 0 refl c.in_ok-kind.ensures.is (rw may)

@@ -2,7 +2,8 @@
 use Prim.Native.Nat.{◌/◌, ◌<◌}
 use mathlib.Core.Path.{refl}
 use native.Mathlib.Omega.{arith}
-use borrow.Author.Tests.{eqb-true, ltb-true}
+use borrow.Author.Tests.{ltb-true}
+use Rattle.std.proofs.lemmas.Result.{err_from_is_err_and}
 use Rattle.device.specs.Call.{Act}
 use Rattle.device.specs.Effect.{effect}
 use Rattle.device.specs.Msix.{msix_written, in_table}
@@ -14,78 +15,58 @@ use Rattle.hub.proofs.RefusalLaws.{region_checked}
 use Rattle.hub.proofs.ReplyLaws.{changes_refused, changes_accepted}
 use Rattle.hub.proofs.writes.msix_write.Goals as goal
 
-pub space_refusal-number-requires : goal.space_refusal-number-requires
-space_refusal-number-requires c = (omega arith, λ e. let h = eqb-true c.args.width 4 e in omega arith)
-
-pub returns-then-number-ne0 : goal.returns-then-number-ne0
+pub returns-in_err-caller : goal.returns-in_err-caller
 unfolding lent_to access_of
-returns-then-number-ne0 c =
+returns-in_err-caller c =
     let a = c.args in
-    changes_refused a.hub.now _ _ _
-    (region_checked a.hub.now a.id (Act.msix_write a.offset a.width a.value) a.offset a.width _ _ refl refl
-    c.nothing_lent-lent.ensures c.space_refusal-number.ensures.is)
-    c.if-number-ne0.true c.answered.ensures
+    let p = err_from_is_err_and c.from_residual.result c.from_residual.ensures.1 in
+    rw (p.1, p.2)
+    (changes_refused a.hub.now _ _
+    (region_checked a.hub.now a.id (Act.msix_write a.offset a.width a.value) a.offset a.width _ refl refl c.in_err-caller.ensures.is))
 
-pub peer-requires : goal.peer-requires
-peer-requires c =
-    let f = c.space_refusal-number.ensures.caller c.if-number-ne0.false in
-    f.known
-
-pub returns-then-not-on : goal.returns-then-not-on
+pub returns-then-not-memory_on : goal.returns-then-not-memory_on
 unfolding lent_to access_of effect run_all run
-returns-then-not-on c =
+returns-then-not-memory_on c =
     let a = c.args in
-    let off = rw (c.memory_on-on.ensures, c.peer.ensures)
-    at c.if-not-on.true in
-    changes_accepted a.hub.now _ _ _ _
-    (region_checked a.hub.now a.id (Act.msix_write a.offset a.width a.value) a.offset a.width _ _ refl refl
-    c.nothing_lent-lent.ensures c.space_refusal-number.ensures.is)
-    c.if-number-ne0.false c.answered-then-not-on.ensures (λ region. refl)
-    (λ region. rw off)
+    let off = rw (c.memory_on.ensures, c.in_ok-caller.ensures.found.peer) at c.if-not-memory_on.true in
+    changes_accepted a.hub.now _ _
+    (region_checked a.hub.now a.id (Act.msix_write a.offset a.width a.value) a.offset a.width _ refl refl c.in_ok-caller.ensures.is)
+    (λ region. refl) (λ region. rw off)
 
-pub settings-requires : goal.settings-requires
-settings-requires c = (c.space_refusal-number.ensures.caller c.if-number-ne0.false).room
-
-pub returns-then-not-inside : goal.returns-then-not-inside
+pub returns-then-not-in_table : goal.returns-then-not-in_table
 unfolding lent_to access_of effect run_all run msix_written
-returns-then-not-inside c =
+returns-then-not-in_table c =
     let a = c.args in
-    let on = rw (c.memory_on-on.ensures, c.peer.ensures) at c.if-not-on.false in
-    let out = rw (c.in_table-inside.ensures, c.settings.ensures)
-    at c.if-not-inside.true in
-    changes_accepted a.hub.now _ _ _ _
-    (region_checked a.hub.now a.id (Act.msix_write a.offset a.width a.value) a.offset a.width _ _ refl refl
-    c.nothing_lent-lent.ensures c.space_refusal-number.ensures.is)
-    c.if-number-ne0.false c.answered-then-not-inside.ensures (λ region. refl)
-    (λ region. rw (on, out) (slot_kept (hub_of a.hub.now) a.id))
+    let f = c.in_ok-caller.ensures.found in
+    let on = rw (c.memory_on.ensures, f.peer) at c.if-not-memory_on.false in
+    let out = rw (c.in_table.ensures, f.settings) at c.if-not-in_table.true in
+    changes_accepted a.hub.now _ _
+    (region_checked a.hub.now a.id (Act.msix_write a.offset a.width a.value) a.offset a.width _ refl refl c.in_ok-caller.ensures.is)
+    (λ region. refl) (λ region. rw (on, out) (slot_kept (hub_of a.hub.now) a.id))
 
-pub entry-e-requires : goal.entry-e-requires
+pub entry-e-requires-clause-vector : goal.entry-e-requires-clause-vector
 unfolding in_table
-entry-e-requires c =
+entry-e-requires-clause-vector c =
     let a = c.args in
-    let f = c.space_refusal-number.ensures.caller c.if-number-ne0.false in
-    let inside = rw (c.in_table-inside.ensures, c.settings.ensures)
-    at c.if-not-inside.false in
+    let inside = rw (c.in_table.ensures, c.in_ok-caller.ensures.found.settings) at c.if-not-in_table.false in
     let v : a.offset / 16 < (hub_of a.hub.now).settings.vectors = ltb-true _ _ inside in
-    record { known = f.known; vector = omega arith }
+    omega arith
 
-pub put_entry-requires : goal.put_entry-requires
+pub put_entry-requires-clause-vector : goal.put_entry-requires-clause-vector
 unfolding in_table
-put_entry-requires c =
+put_entry-requires-clause-vector c =
     let a = c.args in
-    let f = c.space_refusal-number.ensures.caller c.if-number-ne0.false in
-    let inside = rw (c.in_table-inside.ensures, c.settings.ensures) at c.if-not-inside.false in
+    let inside = rw (c.in_table.ensures, c.in_ok-caller.ensures.found.settings) at c.if-not-in_table.false in
     let v : a.offset / 16 < (hub_of a.hub.now).settings.vectors = ltb-true _ _ inside in
-    record { known = f.known; vector = omega arith }
+    omega arith
 
 pub returns : goal.returns
 unfolding lent_to access_of effect run_all run msix_written
 returns c =
     let a = c.args in
-    let on = rw (c.memory_on-on.ensures, c.peer.ensures) at c.if-not-on.false in
-    let inside = rw (c.in_table-inside.ensures, c.settings.ensures) at c.if-not-inside.false in
-    changes_accepted a.hub.now _ _ _ _
-    (region_checked a.hub.now a.id (Act.msix_write a.offset a.width a.value) a.offset a.width _ _ refl refl
-    c.nothing_lent-lent.ensures c.space_refusal-number.ensures.is)
-    c.if-number-ne0.false c.answered-2.ensures (λ region. refl)
-    (λ region. rw (on, inside, c.put_entry.ensures, c.with_word.ensures, c.entry-e.ensures))
+    let f = c.in_ok-caller.ensures.found in
+    let on = rw (c.memory_on.ensures, f.peer) at c.if-not-memory_on.false in
+    let inside = rw (c.in_table.ensures, f.settings) at c.if-not-in_table.false in
+    changes_accepted a.hub.now _ _
+    (region_checked a.hub.now a.id (Act.msix_write a.offset a.width a.value) a.offset a.width _ refl refl c.in_ok-caller.ensures.is)
+    (λ region. refl) (λ region. rw (on, inside, c.put_entry.ensures, c.with_word.ensures, c.entry-e.ensures))
