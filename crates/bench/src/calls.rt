@@ -1,13 +1,14 @@
 // One call for each kind of case, and the answer that is written after the case.
 use super::input::Numbers;
 use super::kinds::Space;
-use super::print::{Bytes, Delivered, Done, Section, Value, say};
+use super::print::{Answer, Bytes, Section, Word, done, say, served, value};
 use super::state::{OLD_BYTE, OLD_WORD, all_are};
-use hub::Served;
+use device::Settings;
 
 // Room for the longest load and store.
 const ROOM: usize = 4097;
 
+// The low 32 bits: `as` takes no number that it would cut, and no method of the library cuts one.
 pub fn low_word(n: u64) -> u32 {
     (n % 0x100000000) as u32
 }
@@ -40,35 +41,21 @@ impl Lent<'_> {
     // After the set-up's numbers come the lengths of what is lent.
     pub fn set_up(&mut self, rt: &impl Print, numbers: Numbers) {
         let [_, _, base, output, common, table, vectors, peers] = numbers;
-        let reply = hub::set_up(
-            self.hub,
-            self.region,
+        let settings = Settings {
             peers,
             vectors,
             table,
             common,
             output,
             base,
-            0,
-            0,
-            0,
-        );
-        let done = Done(reply);
+            protocol: 0,
+            vendor: 0,
+            subsystem: 0,
+        };
+        let done = done(hub::set_up(self.hub, self.region, settings));
         let words = left(self.hub, (0, "zero"), (OLD_WORD, "kept"), "set");
         let bytes = left(self.region, (OLD_BYTE, "kept"), (0, "zero"), "changed");
         say(rt, format_args!("{done}, words {words}, region {bytes}"));
-    }
-
-    fn served(&self, rt: &impl Print, s: Served) {
-        let Served { reply, list } = s;
-        say(rt, Done(reply));
-        say(
-            rt,
-            Delivered {
-                hub: self.hub,
-                list,
-            },
-        );
     }
 
     pub fn write(&mut self, rt: &impl Print, space: Space, numbers: Numbers) {
@@ -76,11 +63,11 @@ impl Lent<'_> {
         let word = low_word(value);
         match space {
             Space::Configuration => {
-                let reply = hub::configuration_write(self.hub, id, offset, width, word);
-                say(rt, Done(reply));
+                let answer = hub::configuration_write(self.hub, id, offset, width, word);
+                say(rt, done(answer));
             }
             Space::Registers => {
-                let s = hub::register_write(
+                let answer = hub::register_write(
                     self.hub,
                     self.region,
                     self.records,
@@ -89,23 +76,23 @@ impl Lent<'_> {
                     width,
                     word,
                 );
-                self.served(rt, s);
+                say(rt, served(self.hub, answer));
             }
             Space::Msix => {
-                let reply = hub::msix_write(self.hub, id, offset, width, word);
-                say(rt, Done(reply));
+                let answer = hub::msix_write(self.hub, id, offset, width, word);
+                say(rt, done(answer));
             }
         }
     }
 
     pub fn reset(&mut self, rt: &impl Print, id: u64) {
-        let s = hub::reset(self.hub, self.region, self.records, id);
-        self.served(rt, s);
+        let answer = hub::reset(self.hub, self.region, self.records, id);
+        say(rt, served(self.hub, answer));
     }
 
     pub fn disconnect(&mut self, rt: &impl Print, id: u64) {
-        let s = hub::disconnect(self.hub, self.region, self.records, id);
-        self.served(rt, s);
+        let answer = hub::disconnect(self.hub, self.region, self.records, id);
+        say(rt, served(self.hub, answer));
     }
 
     pub fn load(&self, rt: &impl Print, numbers: Numbers) {
@@ -114,9 +101,9 @@ impl Lent<'_> {
         let Some(buffer) = room.get_mut(..length as usize) else {
             return;
         };
-        let reply = hub::load(self.hub, self.region, id, offset, buffer);
-        say(rt, Done(reply));
-        if reply.number == 0 {
+        let answer = hub::load(self.hub, self.region, id, offset, buffer);
+        say(rt, done(answer));
+        if answer.is_ok() {
             say(rt, Bytes(buffer));
         } else if all_are(buffer, OLD_BYTE) {
             say(rt, ", buffer kept");
@@ -135,15 +122,15 @@ impl Lent<'_> {
         }
         if let Some(bytes) = room.get(..length as usize) {
             let hub = &mut *self.hub;
-            let reply = hub::store(hub, self.region, id, offset, bytes);
-            say(rt, Done(reply));
+            let answer = hub::store(hub, self.region, id, offset, bytes);
+            say(rt, done(answer));
         }
     }
 }
 
-pub fn read(space: Space, hub: &[u32], numbers: Numbers) -> Value {
+pub fn read(space: Space, hub: &[u32], numbers: Numbers) -> Answer<Word> {
     let [width, offset, id, ..] = numbers;
-    Value(match space {
+    value(match space {
         Space::Configuration => hub::configuration_read(hub, id, offset, width),
         Space::Registers => hub::register_read(hub, id, offset, width),
         Space::Msix => hub::msix_read(hub, id, offset, width),
@@ -152,11 +139,11 @@ pub fn read(space: Space, hub: &[u32], numbers: Numbers) -> Value {
 
 // A connect and every read, of words that may be no hub.
 pub fn every(rt: &impl Print, hub: &mut [u32]) {
-    let connected = Done(hub::connect(hub, 1));
+    let connected = done(hub::connect(hub, 1));
     say(rt, format_args!("connect {connected}"));
-    let configuration = Value(hub::configuration_read(hub, 0, 0, 4));
-    let register = Value(hub::register_read(hub, 0, 0, 4));
-    let msix = Value(hub::msix_read(hub, 0, 0, 4));
+    let configuration = value(hub::configuration_read(hub, 0, 0, 4));
+    let register = value(hub::register_read(hub, 0, 0, 4));
+    let msix = value(hub::msix_read(hub, 0, 0, 4));
     let section = Section(hub::section_question(hub, 0, 0, 4));
     say(
         rt,

@@ -3,7 +3,7 @@ use super::calls;
 use super::calls::{Lent, low_word};
 use super::input::{Numbers, numbers};
 use super::kinds::Kind;
-use super::print::{Done, Section, say};
+use super::print::{Section, done, say};
 use super::state::{Change, MEMORY_WORDS, Memory, OLD_BYTE, OLD_WORD, REGION_BYTES, Region};
 
 // Words of the memory, bytes of the region, records of a delivery table.
@@ -67,7 +67,7 @@ impl Case {
     fn on_hub(self, rt: &impl Print, hub: &mut [u32]) {
         let Self { kind, numbers } = self;
         match (kind, numbers) {
-            (Kind::Connect, [id, ..]) => say(rt, Done(hub::connect(hub, id))),
+            (Kind::Connect, [id, ..]) => say(rt, done(hub::connect(hub, id))),
             (Kind::Read(space), _) => say(rt, calls::read(space, hub, numbers)),
             (Kind::Question, [length, offset, id, ..]) => {
                 say(rt, Section(hub::section_question(hub, id, offset, length)));

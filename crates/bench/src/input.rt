@@ -5,6 +5,7 @@ ghost use Rattle.std.specs.Prelude.{◌<◌, ◌≤◌, IfSome};
 // The last eight numbers of a line, the last one first. No case has more.
 pub type Numbers = [u64; 8];
 
+// No `to_digit`, which takes small letters too.
 fn digit(b: u8) -> Option<u64>
     ensures { IfSome result (λ d. d < 16) }
 {
@@ -15,7 +16,7 @@ fn digit(b: u8) -> Option<u64>
     }
 }
 
-// Of a number that is too long the first digits are lost, in either base, so that it is always 64 bits.
+// A number that is too long wraps in either base. `parse` and `from_str_radix` would refuse it.
 fn value(digits: &[u8], base: u64) -> u64
     requires { base ≤ 16 }
 {

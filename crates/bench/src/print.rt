@@ -1,6 +1,7 @@
 // What the program writes.
 use deliveries::Deliveries;
-use device::{Delivery, PeerId, Reply, SectionAnswer, SectionKind, SectionReply, Vector};
+use device::{Delivery, PeerId, SectionAnswer, SectionKind, Vector};
+use hub::Refusal;
 use std::fmt;
 
 // A write that fails is let go, and the program goes on.
@@ -8,42 +9,41 @@ pub fn say(rt: &impl Print, what: impl fmt::Display + Drop) {
     let _ = rt.print(what);
 }
 
-// The answer to a call that reads nothing, whose value is 0, as a refusal's is.
+// What a call answers, or the number of its refusal.
 #[derive(Clone, Copy)]
-pub struct Done(pub Reply);
+pub struct Answer<T>(Result<T, Refusal>);
 
-impl fmt::Display for Done {
+impl<T: fmt::Display> fmt::Display for Answer<T> {
     fn fmt<W: fmt::Write>(&self, f: &mut fmt::Formatter<W>) -> fmt::Result {
-        let Reply { number, value } = self.0;
-        match number {
-            0 => write!(f, "taken")?,
-            _ => write!(f, "refused {number}")?,
-        }
-        if value != 0 {
-            write!(f, " with a value")?;
-        }
-        Ok(())
-    }
-}
-
-// The answer to a read.
-#[derive(Clone, Copy)]
-pub struct Value(pub Reply);
-
-impl fmt::Display for Value {
-    fn fmt<W: fmt::Write>(&self, f: &mut fmt::Formatter<W>) -> fmt::Result {
-        let Reply { number, value } = self.0;
-        match number {
-            0 => write!(f, "{value:08X}h"),
-            _ => write!(f, "{}", Done(self.0)),
+        match &self.0 {
+            Ok(value) => write!(f, "{value}"),
+            Err(refusal) => write!(f, "refused {}", refusal.number()),
         }
     }
 }
 
-#[derive(Clone, Copy)]
-struct Kind(SectionKind);
+// The answer to a call that reads nothing.
+pub fn done(answer: Result<(), Refusal>) -> Answer<&'static str> {
+    Answer(answer.map(|()| "taken"))
+}
 
-impl fmt::Display for Kind {
+#[derive(Clone, Copy)]
+pub struct Word(u32);
+
+impl fmt::Display for Word {
+    fn fmt<W: fmt::Write>(&self, f: &mut fmt::Formatter<W>) -> fmt::Result {
+        write!(f, "{:08X}h", self.0)
+    }
+}
+
+pub fn value(answer: Result<u32, Refusal>) -> Answer<Word> {
+    Answer(answer.map(Word))
+}
+
+#[derive(Clone, Copy)]
+struct SectionName(SectionKind);
+
+impl fmt::Display for SectionName {
     fn fmt<W: fmt::Write>(&self, f: &mut fmt::Formatter<W>) -> fmt::Result {
         match self.0 {
             SectionKind::Nothing => write!(f, "no section"),
@@ -54,16 +54,20 @@ impl fmt::Display for Kind {
     }
 }
 
-// The answer to the section question.
+// The answer to the section question. A refusal names no section and lets nothing be stored.
 #[derive(Clone, Copy)]
-pub struct Section(pub SectionReply);
+pub struct Section(pub Result<SectionAnswer, Refusal>);
 
 impl fmt::Display for Section {
     fn fmt<W: fmt::Write>(&self, f: &mut fmt::Formatter<W>) -> fmt::Result {
-        let SectionReply { reply, section } = self.0;
-        let SectionAnswer { kind, store } = section;
+        let done = done(self.0.map(|_| ()));
+        let SectionAnswer { kind, store } = self.0.unwrap_or(SectionAnswer {
+            kind: SectionKind::Nothing,
+            store: false,
+        });
         let may_store = if store { "yes" } else { "no" };
-        write!(f, "{}, {}, {may_store}", Done(reply), Kind(kind))
+        let name = SectionName(kind);
+        write!(f, "{done}, {name}, {may_store}")
     }
 }
 
@@ -85,25 +89,27 @@ impl fmt::Display for Sent {
 // The deliveries of a call, in ring order, made from the hub that the call left.
 #[derive(Clone, Copy)]
 pub struct Delivered<'a> {
-    pub hub: &'a [u32],
-    pub list: Deliveries,
+    hub: &'a [u32],
+    list: Deliveries,
 }
 
 impl fmt::Display for Delivered<'_> {
     fn fmt<W: fmt::Write>(&self, f: &mut fmt::Formatter<W>) -> fmt::Result {
-        let Deliveries {
-            count,
-            vector,
-            targets,
-        } = self.list;
-        if count > 0 {
+        let ids = self.list.delivered();
+        write!(f, "taken")?;
+        if !ids.is_empty() {
             write!(f, ", delivered")?;
         }
-        for target in targets.iter().take(count) {
-            write!(f, "{}", Sent(deliveries::sent(self.hub, *target, vector)))?;
+        for id in ids {
+            let sent = Sent(deliveries::sent(self.hub, *id, self.list.vector));
+            write!(f, "{sent}")?;
         }
         Ok(())
     }
+}
+
+pub fn served(hub: &[u32], answer: Result<Deliveries, Refusal>) -> Answer<Delivered<'_>> {
+    Answer(answer.map(|list| Delivered { hub, list }))
 }
 
 // The bytes of a short buffer, or the one value that all bytes of a long one have.

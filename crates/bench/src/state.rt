@@ -37,8 +37,7 @@ impl Change {
 
 impl fmt::Display for Change {
     fn fmt<W: fmt::Write>(&self, f: &mut fmt::Formatter<W>) -> fmt::Result {
-        let first = self.first;
-        let last = self.last;
+        let Self { first, last } = self;
         write!(f, ", bytes {first} to {last} changed")
     }
 }
