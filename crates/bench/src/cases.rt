@@ -1,200 +1,196 @@
 // One line of the input: a case, which is written again with its answer, or what the cases below it are lent.
-use super::input::Numbers;
+use super::calls;
+use super::calls::{Lent, low_word};
+use super::input::{Numbers, numbers};
 use super::kinds::Kind;
-use super::print::say;
+use super::print::{Section, done, say};
 use super::state::{Change, MEMORY_WORDS, Memory, OLD_BYTE, OLD_WORD, REGION_BYTES, Region};
-use super::{calls, input, kinds, print, state};
 
 // Words of the memory, bytes of the region, records of a delivery table.
 #[derive(Clone, Copy)]
-pub struct Lent {
-    pub words: usize,
-    pub bytes: usize,
-    pub records: u64,
-}
-
-// What is lent from this line on; of a hub's first words alone, for this line.
-fn lent_now(kind: Kind, n: Numbers, lent: Lent) -> Lent {
-    let mut now = lent;
-    match kind {
-        Kind::SetUp | Kind::Again => {
-            now.words = n.1 as usize;
-            now.bytes = n.0 as usize;
-            now.records = device::MAX_PEERS as u64;
-        }
-        Kind::Lend | Kind::Words => {
-            now.words = n.1 as usize;
-            now.records = n.0;
-        }
-        Kind::Lent => {
-            now.bytes = n.1 as usize;
-            now.records = n.0;
-        }
-        Kind::Cut => now.words = n.0 as usize,
-        _ => {}
-    }
-    now
-}
-
-fn on_hub(rt: &impl Print, kind: Kind, n: Numbers, hub: &mut [u32]) {
-    match kind {
-        Kind::Connect => print::done(rt, hub::connect(hub, n.0)),
-        Kind::Write(space) => print::done(rt, calls::write(space, hub, n)),
-        Kind::Read(space) => print::value(rt, calls::read(space, hub, n)),
-        Kind::Question => print::section(rt, hub::section_question(hub, n.2, n.1, n.0)),
-        Kind::Changed | Kind::Cut => calls::every(rt, hub),
-        _ => {}
-    }
-}
-
-fn answered(
-    rt: &impl Print,
-    kind: Kind,
-    n: Numbers,
-    hub: &mut [u32],
-    region: &mut [u8],
+struct Lengths {
+    words: usize,
+    bytes: usize,
     records: u64,
-) {
-    match kind {
-        Kind::SetUp | Kind::Again => calls::set_up(rt, hub, region, n),
-        Kind::RegisterWrite => calls::register_write(rt, hub, region, records, n),
-        Kind::Reset => calls::reset(rt, hub, region, records, n.0),
-        Kind::Disconnect => calls::disconnect(rt, hub, region, records, n.0),
-        Kind::Load => calls::load(rt, hub, region, n),
-        Kind::Store => calls::store(rt, hub, region, n),
-        _ => on_hub(rt, kind, n, hub),
-    }
 }
 
-// On the parts of the memory and of the region that are lent.
-fn lent_to(
-    rt: &impl Print,
+#[derive(Clone, Copy)]
+struct Case {
     kind: Kind,
-    n: Numbers,
-    memory: &mut [u32],
-    region: &mut [u8],
-    lent: Lent,
-) {
-    let words = lent.words;
-    let bytes = lent.bytes;
-    if words <= memory.len() {
-        if bytes <= region.len() {
-            answered(
-                rt,
-                kind,
-                n,
-                &mut memory[..words],
-                &mut region[..bytes],
-                lent.records,
-            );
-        }
-    }
+    numbers: Numbers,
 }
 
-// What the memory and the region hold before the call, and the word that is put by hand: what it is to be, and its place.
-fn prepared(kind: Kind, n: Numbers, memory: &mut Memory, region: &mut Region) {
-    match kind {
-        Kind::SetUp => {
-            *memory = [OLD_WORD; MEMORY_WORDS];
-            *region = [OLD_BYTE; REGION_BYTES];
+impl Case {
+    // None for a comment and an empty line.
+    fn of(line: &[u8]) -> Option<Self> {
+        Kind::of(line).map(|kind| Self {
+            kind,
+            numbers: numbers(line),
+        })
+    }
+
+    // What is lent from this line on; of a hub's first words alone, for this line.
+    fn lengths(self, before: Lengths) -> Lengths {
+        let Self { kind, numbers } = self;
+        match (kind, numbers) {
+            (Kind::SetUp | Kind::Again, [bytes, words, ..]) => Lengths {
+                words: words as usize,
+                bytes: bytes as usize,
+                records: device::MAX_PEERS as u64,
+            },
+            (Kind::Lend | Kind::Words, [records, words, ..]) => Lengths {
+                words: words as usize,
+                records,
+                ..before
+            },
+            (Kind::Lent, [records, bytes, ..]) => Lengths {
+                bytes: bytes as usize,
+                records,
+                ..before
+            },
+            (Kind::Cut, [words, ..]) => Lengths {
+                words: words as usize,
+                ..before
+            },
+            _ => before,
         }
-        Kind::Again => *region = [OLD_BYTE; REGION_BYTES],
-        Kind::Made | Kind::Changed => {
-            let at = n.0 as usize;
-            if at < MEMORY_WORDS {
-                memory[at] = calls::low_word(n.1);
+    }
+
+    // What is written between the case and its answer.
+    fn middle(self) -> &'static str {
+        match self.kind {
+            Kind::Lent | Kind::Lend | Kind::Words | Kind::Made => "",
+            _ => ": ",
+        }
+    }
+
+    fn on_hub(self, rt: &impl Print, hub: &mut [u32]) {
+        let Self { kind, numbers } = self;
+        match (kind, numbers) {
+            (Kind::Connect, [id, ..]) => say(rt, done(hub::connect(hub, id))),
+            (Kind::Read(space), _) => say(rt, calls::read(space, hub, numbers)),
+            (Kind::Question, [length, offset, id, ..]) => {
+                say(rt, Section(hub::section_question(hub, id, offset, length)));
             }
+            (Kind::Changed | Kind::Cut, _) => calls::every(rt, hub),
+            _ => {}
         }
-        _ => {}
+    }
+
+    fn answer(self, rt: &impl Print, lent: &mut Lent<'_>) {
+        let Self { kind, numbers } = self;
+        match (kind, numbers) {
+            (Kind::SetUp | Kind::Again, _) => lent.set_up(rt, numbers),
+            (Kind::Write(space), _) => lent.write(rt, space, numbers),
+            (Kind::Reset, [id, ..]) => lent.reset(rt, id),
+            (Kind::Disconnect, [id, ..]) => lent.disconnect(rt, id),
+            (Kind::Load, _) => lent.load(rt, numbers),
+            (Kind::Store, _) => lent.store(rt, numbers),
+            _ => self.on_hub(rt, lent.hub),
+        }
+    }
+
+    // What is written last: whether the words, or words and region, are as they were.
+    fn ending(self, words_kept: bool, region_kept: bool) -> &'static str {
+        match self.kind {
+            Kind::Connect | Kind::Changed | Kind::Cut if words_kept => ", words kept\n",
+            Kind::Write(_) | Kind::Reset | Kind::Disconnect | Kind::Store
+                if words_kept && region_kept => { ", unchanged\n" }
+            Kind::Lent => " ",
+            Kind::Lend => "",
+            _ => "\n",
+        }
     }
 }
 
-// What is written between the case and its answer.
-fn middle(kind: Kind) -> usize {
-    match kind {
-        Kind::Lent | Kind::Lend | Kind::Words | Kind::Made => print::NOTHING,
-        _ => print::ANSWER,
-    }
+// The memory and the region, and how much of them the cases are lent.
+#[derive(Drop)]
+pub struct Bench {
+    memory: Memory,
+    region: Region,
+    lengths: Lengths,
 }
 
-// What is written last: whether the words, or words and region, are as they were.
-fn ending(kind: Kind, words: bool, region: bool) -> usize {
-    match kind {
-        Kind::Connect | Kind::Changed | Kind::Cut => {
-            if words {
-                return print::KEPT;
+impl Bench {
+    pub fn new() -> Self {
+        Self {
+            memory: [0; MEMORY_WORDS],
+            region: [0; REGION_BYTES],
+            lengths: Lengths {
+                words: 0,
+                bytes: 0,
+                records: 0,
+            },
+        }
+    }
+
+    // What stands after `@` is not written.
+    pub fn run(&mut self, rt: &impl Print, line: &[u8]) {
+        let Some(case) = Case::of(line) else {
+            return;
+        };
+        let end = line.iter().position(|b| *b == b'@').unwrap_or(line.len());
+        let _ = rt.write_all(&line[..end]);
+        say(rt, case.middle());
+        let lengths = self.lengths;
+        self.lengths = case.lengths(lengths);
+        let memory = self.memory;
+        self.call(rt, case);
+        match case.kind {
+            Kind::Changed => self.memory = memory,
+            Kind::Cut => {
+                self.memory = memory;
+                self.lengths = lengths;
             }
-            print::LINE_END
+            _ => {}
         }
-        Kind::Write(_) | Kind::RegisterWrite | Kind::Reset | Kind::Disconnect | Kind::Store => {
-            if words & region {
-                return print::UNCHANGED;
+    }
+
+    // What the memory and the region hold before the call, and the word that is put by hand: what it is to be, and its place.
+    fn prepare(&mut self, case: Case) {
+        match case.kind {
+            Kind::SetUp => {
+                self.memory = [OLD_WORD; MEMORY_WORDS];
+                self.region = [OLD_BYTE; REGION_BYTES];
             }
-            print::LINE_END
-        }
-        Kind::Lent => print::SPACE,
-        Kind::Lend => print::NOTHING,
-        _ => print::LINE_END,
-    }
-}
-
-fn end(rt: &impl Print, kind: Kind, words: bool, change: Change) {
-    let same = change.first == REGION_BYTES;
-    if let Kind::Store = kind {
-        if !same {
-            say(rt, print::FIRST_CHANGED, change.first as u64);
-            say(rt, print::LAST_CHANGED, change.last as u64);
+            Kind::Again => self.region = [OLD_BYTE; REGION_BYTES],
+            Kind::Made | Kind::Changed => {
+                let [place, value, ..] = case.numbers;
+                if let Some(word) = self.memory.get_mut(place as usize) {
+                    *word = low_word(value);
+                }
+            }
+            _ => {}
         }
     }
-    say(rt, ending(kind, words, same), 0);
-}
 
-// One line, and what is lent after it.
-pub fn run(
-    rt: &impl Print,
-    line: &[u8],
-    memory: &mut Memory,
-    region: &mut Region,
-    lent: Lent,
-) -> Lent {
-    let kind = kinds::of(line);
-    if let Kind::Comment = kind {
-        return lent;
-    }
-    let shown = input::find(line, 0, b'@');
-    print::text(rt, &line[..shown]);
-    say(rt, middle(kind), 0);
-    let n = input::scan(line);
-    let now = lent_now(kind, n, lent);
-    case(rt, kind, n, memory, region, now);
-    if let Kind::Cut = kind {
-        return lent;
-    }
-    now
-}
-
-// A word that was put for this case alone is as it was after it.
-fn case(
-    rt: &impl Print,
-    kind: Kind,
-    n: Numbers,
-    memory: &mut Memory,
-    region: &mut Region,
-    lent: Lent,
-) {
-    let whole = *memory;
-    prepared(kind, n, memory, region);
-    let words = *memory;
-    let bytes = *region;
-    lent_to(rt, kind, n, memory, region, lent);
-    end(
-        rt,
-        kind,
-        state::same_words(memory, &words),
-        state::compared(region, &bytes),
-    );
-    match kind {
-        Kind::Changed | Kind::Cut => *memory = whole,
-        _ => {}
+    // On the parts of the memory and of the region that are lent.
+    fn call(&mut self, rt: &impl Print, case: Case) {
+        self.prepare(case);
+        let memory = self.memory;
+        let region = self.region;
+        let Lengths {
+            words,
+            bytes,
+            records,
+        } = self.lengths;
+        if let Some(hub) = self.memory.get_mut(..words)
+            && let Some(region) = self.region.get_mut(..bytes)
+        {
+            let mut lent = Lent {
+                hub,
+                region,
+                records,
+            };
+            case.answer(rt, &mut lent);
+        }
+        let change = Change::between(&region, &self.region);
+        let ending = case.ending(self.memory == memory, change.is_none());
+        if case.kind == Kind::Store
+            && let Some(change) = change
+        {
+            say(rt, change);
+        }
+        say(rt, ending);
     }
 }

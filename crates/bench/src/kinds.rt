@@ -1,9 +1,7 @@
 // Which case a line is, by the words that it begins with.
-use super::input;
 
-#[derive(Clone, Copy)]
+#[derive(Clone, Copy, PartialEq, Eq)]
 pub enum Kind {
-    Comment,
     // a call to which a region and a table of the lengths in front of it are lent
     Lent,
     // the words and the records that the cases below are lent, without a line and with one
@@ -14,8 +12,6 @@ pub enum Kind {
     Connect,
     Read(Space),
     Write(Space),
-    // the calls to which a delivery table is lent
-    RegisterWrite,
     Reset,
     Disconnect,
     Question,
@@ -27,56 +23,56 @@ pub enum Kind {
     Made,
 }
 
-#[derive(Clone, Copy)]
+#[derive(Clone, Copy, PartialEq, Eq)]
 pub enum Space {
     Configuration,
     Registers,
     Msix,
 }
 
-// The names of the words that a case puts by hand are many, and `=` tells whether it is for this case alone.
-fn put_by_hand(line: &[u8]) -> Kind {
-    if input::find(line, 0, b'=') < line.len() {
-        return Kind::Changed;
-    }
-    Kind::Made
-}
+static NAMES: [(&str, Kind); 17] = [
+    ("@", Kind::Lend),
+    ("lent", Kind::Lent),
+    ("set-up", Kind::SetUp),
+    ("again", Kind::Again),
+    ("connect ", Kind::Connect),
+    ("disconnect", Kind::Disconnect),
+    ("reset", Kind::Reset),
+    ("question", Kind::Question),
+    ("load", Kind::Load),
+    ("store", Kind::Store),
+    ("words", Kind::Cut),
+    ("configuration r", Kind::Read(Space::Configuration)),
+    ("register r", Kind::Read(Space::Registers)),
+    ("MSI-X r", Kind::Read(Space::Msix)),
+    ("configuration w", Kind::Write(Space::Configuration)),
+    ("register w", Kind::Write(Space::Registers)),
+    ("MSI-X w", Kind::Write(Space::Msix)),
+];
 
-pub fn of(line: &[u8]) -> Kind {
-    if line.len() == 0 {
-        return Kind::Comment;
+impl Kind {
+    // None for a comment and an empty line.
+    pub fn of(line: &[u8]) -> Option<Self> {
+        match line {
+            [] | [b'#', ..] => None,
+            [..=b'9', ..] => Some(Self::Words),
+            _ => Some(Self::named(line).unwrap_or(Self::put_by_hand(line))),
+        }
     }
-    let first = line[0];
-    if first == b'#' {
-        return Kind::Comment;
-    }
-    if first <= b'9' {
-        return Kind::Words;
-    }
-    let names = b"@|lent|set-up|again|connect |disconnect|reset|question|load|store|words|\
-        configuration r|register r|MSI-X r|configuration w|register w|MSI-X w|";
-    named(line, input::which(line, names))
-}
 
-fn named(line: &[u8], name: usize) -> Kind {
-    match name {
-        0 => Kind::Lend,
-        1 => Kind::Lent,
-        2 => Kind::SetUp,
-        3 => Kind::Again,
-        4 => Kind::Connect,
-        5 => Kind::Disconnect,
-        6 => Kind::Reset,
-        7 => Kind::Question,
-        8 => Kind::Load,
-        9 => Kind::Store,
-        10 => Kind::Cut,
-        11 => Kind::Read(Space::Configuration),
-        12 => Kind::Read(Space::Registers),
-        13 => Kind::Read(Space::Msix),
-        14 => Kind::Write(Space::Configuration),
-        15 => Kind::RegisterWrite,
-        16 => Kind::Write(Space::Msix),
-        _ => put_by_hand(line),
+    fn named(line: &[u8]) -> Option<Self> {
+        NAMES
+            .iter()
+            .find(|(name, _)| line.starts_with(name.as_bytes()))
+            .map(|(_, kind)| *kind)
+    }
+
+    // The names of the words that a case puts by hand are many, and `=` tells whether it is for this case alone.
+    fn put_by_hand(line: &[u8]) -> Self {
+        if line.contains(&b'=') {
+            Self::Changed
+        } else {
+            Self::Made
+        }
     }
 }

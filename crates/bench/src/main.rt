@@ -8,48 +8,18 @@ mod kinds;
 mod print;
 mod state;
 
-ghost use Rattle.std.specs.Prelude.{◌≤◌, length};
-
-use cases::Lent;
-use state::{Memory, Region};
+use cases::Bench;
 use std::io::Read;
 
 // The longest input. What comes after it is not read.
-const INPUT_BYTES: usize = 65536;
+const INPUT_BYTES: u64 = 65536;
 
-// Reads until the buffer is full, the input ends or a read fails: how many bytes stand at the start of the buffer.
-fn read_full(from: &mut impl Read, buffer: &mut [u8]) -> usize
-    ensures { result ≤ length buffer.new }
-{
-    let mut done = 0;
-    while done < buffer.len() {
-        match from.read(&mut buffer[done..]) {
-            Ok(0) => return done,
-            Ok(n) => done += n,
-            Err(_) => return done,
-        }
-    }
-    done
-}
-
-fn each(rt: &impl Print, text: &[u8], memory: &mut Memory, region: &mut Region) {
-    let mut lent = Lent {
-        words: 0,
-        bytes: 0,
-        records: 0,
-    };
-    let mut at = 0;
-    while at < text.len() {
-        let end = input::find(text, at, b'\n');
-        lent = cases::run(rt, &text[at..end], memory, region, lent);
-        at = end + 1;
-    }
-}
-
+// Where a read fails, the lines that came before it are run.
 fn main(rt: HostRuntime) {
-    let mut buffer = [0u8; INPUT_BYTES];
-    let count = read_full(&mut rt.stdin(), &mut buffer);
-    let mut memory = [0u32; state::MEMORY_WORDS];
-    let mut region = [0u8; state::REGION_BYTES];
-    each(&rt, &buffer[..count], &mut memory, &mut region);
+    let mut input = Vec::new(rt.alloc());
+    let _ = rt.stdin().take(INPUT_BYTES).read_to_end(&mut input);
+    let mut bench = Bench::new();
+    for line in input.split(|b| *b == b'\n') {
+        bench.run(&rt, line);
+    }
 }

@@ -1,4 +1,5 @@
 // What the hub's words and the region hold before and after a call.
+use std::fmt;
 
 // Room for the largest hub and one word too many.
 pub const MEMORY_WORDS: usize = words::MAX_HUB_WORDS + 1;
@@ -15,59 +16,28 @@ pub const OLD_BYTE: u8 = 0xA5;
 
 pub const OLD_WORD: u32 = 0x5A5A5A5A;
 
-pub fn all_bytes(region: &[u8], b: u8) -> bool {
-    let mut k = 0;
-    while k < region.len() {
-        if region[k] != b {
-            return false;
-        }
-        k += 1;
-    }
-    true
+pub fn all_are<T: PartialEq + Drop>(items: &[T], value: T) -> bool {
+    items.iter().all(|x| *x == value)
 }
 
-pub fn all_words(hub: &[u32], w: u32) -> bool {
-    let mut k = 0;
-    while k < hub.len() {
-        if hub[k] != w {
-            return false;
-        }
-        k += 1;
-    }
-    true
-}
-
-// Whether the words are as they were when they were copied.
-pub fn same_words(words: &Memory, before: &Memory) -> bool {
-    let mut k = 0;
-    while k < MEMORY_WORDS {
-        if words[k] != before[k] {
-            return false;
-        }
-        k += 1;
-    }
-    true
-}
-
-// The first and the last place where the region differs from its copy; after the end, where it is the same.
+// The first and the last place where the region differs from what it was.
 #[derive(Drop)]
 pub struct Change {
-    pub first: usize,
-    pub last: usize,
+    first: usize,
+    last: usize,
 }
 
-pub fn compared(region: &Region, before: &Region) -> Change {
-    let mut first = REGION_BYTES;
-    let mut last = REGION_BYTES;
-    let mut k = 0;
-    while k < REGION_BYTES {
-        if region[k] != before[k] {
-            last = k;
-            if first == REGION_BYTES {
-                first = k;
-            }
-        }
-        k += 1;
+impl Change {
+    pub fn between(before: &Region, after: &Region) -> Option<Self> {
+        let first = before.iter().zip(after).position(|(x, y)| x != y)?;
+        let last = before.iter().zip(after).rposition(|(x, y)| x != y)?;
+        Some(Self { first, last })
     }
-    Change { first, last }
+}
+
+impl fmt::Display for Change {
+    fn fmt<W: fmt::Write>(&self, f: &mut fmt::Formatter<W>) -> fmt::Result {
+        let Self { first, last } = self;
+        write!(f, ", bytes {first} to {last} changed")
+    }
 }
