@@ -28,6 +28,7 @@ impl Stored {
     }
 
     // The same for a register that is the last byte of its word. With that lane off it stays as it is, any bits above a byte too.
+    // No call of `merged`, which would keep those bits with the lane on: `merge_last` drops them.
     pub fn merged_last(self, mask: u32, old: u32) -> u32
         requires { mask < 256 }
         ensures { result ≡ merge_last self.bits mask old self.new }

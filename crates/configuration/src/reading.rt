@@ -52,6 +52,7 @@ fn word(s: Settings, p: Peer, at: u64) -> u64
 }
 
 // A read of some bytes of one word, little-endian: an aligned access of 1, 2 or 4 bytes lies in one.
+// Four arguments and no struct, here and in `write`: the hub's calls hand them over one by one.
 pub fn read(s: Settings, p: Peer, at: u64, width: u64) -> u64
     requires { at % 4 + width ≤ 4 }
     ensures is { result ≡ configuration_read s p at width }

@@ -14,9 +14,7 @@ use Rattle.std.proofs.lemmas.Nat.{leading_length}
 use Rattle.std.proofs.lemmas.Nat.Bits.{bit_at_ones, bit_at-trailing_ones}
 use Rattle.std.specs.Int.{w64, bit_at, leading_zeros, trailing_ones}
 use Rattle.server.proofs.JoinedLaws.{is_bit, joined_below_lem, joined_beyond, bits_gone}
-use Rattle.server.proofs.ListLaws.{each_append}
 use Rattle.server.specs.Clients.{is_joined, joined_at, joined_below, clients, free_from, lowest_free, Lowest, ClientsAreListed}
-use Rattle.server.specs.Messages.{each_of}
 
 -- where an id is joined the search goes on behind it, else it ends there
 pub free_next : (n id joined : ℕ) → is_joined joined id ≡ true → free_from (suc n) id joined ≡ free_from n (suc id) joined
@@ -122,20 +120,6 @@ module _ (joined : ℕ) where
 
   pub clients_within : length (clients joined) ≤ ids
   clients_within = below_length ids
-
--- what is alike for each joined id is alike for all of them
-pub each_joined : {A : Type 0} (joined : ℕ) (f g : ℕ → List A) → ((id : ℕ) → is_joined joined id ≡ true → f id ≡ g id) → (n : ℕ)
-    → each_of f (joined_below n joined) ≡ each_of g (joined_below n joined)
-unfolding joined_below each_of
-each_joined joined f g same zero = refl
-each_joined joined f g same (suc n) =
-    rw (
-      each_append f (joined_below n joined) (joined_at joined n),
-      each_append g (joined_below n joined) (joined_at joined n),
-      each_joined joined f g same n,
-    )
-    (by_joined joined (λ l. each_of g (joined_below n joined) ++ each_of f l ≡ each_of g (joined_below n joined) ++ each_of g l) n
-    (λ e. rw (same n e)) (λ e. refl))
 
 -- where a number ends no id is joined, and those below are all
 module _ (joined id : ℕ) (e : joined < 2 ^ id) where

@@ -23,7 +23,7 @@ pub use refusals::Refusal;
 // The room that every call wants: that of the largest join.
 pub const BUFFER_BYTES: usize = 20350;
 
-// Bit i of `joined` is 1 where id i is joined.
+// Bit i of `joined` is 1 where id i is joined: a plain number and no `Clients`, since C has this struct.
 #[repr(C)]
 #[derive(Clone, Copy)]
 pub struct Server {
@@ -101,7 +101,7 @@ impl Served {
 fn in_range(vectors: u64) -> bool
     ensures { result ≡ in_range vectors }
 {
-    (1 <= vectors) & (vectors <= reader::MOST_VECTORS)
+    1 <= vectors && vectors <= reader::MOST_VECTORS
 }
 
 // A server that nobody has joined.
