@@ -44,8 +44,12 @@ IdOf z o = MatchOption o (is_id z ≡ false) (λ id. (is_id z ≡ true) × ((id 
 abbrev pub known_by : Known → Kept
 known_by k = known (step_number k.step) k.own k.counts.now
 
+-- what the code of a step leaves, as the definitions have it
+abbrev pub result_of : Message → Known → Heard
+result_of m k = result_with m (known_by k)
+
 -- what a record leaves: its message and what is known then, and all else as it was
 pub record Leaves (before after : Known) (m : Message) (r : Heard) : Type 0 where
-  pub is : result_with m (known_by after) ≡ r
+  pub is : result_of m after ≡ r
   pub counts : before.counts.ghost_name ≡ after.counts.ghost_name
   pub vectors : after.vectors ≡ before.vectors

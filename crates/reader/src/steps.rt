@@ -132,7 +132,7 @@ impl Known<'_> {
     {
         let at = usize::from(id);
         let count = self.counts[at];
-        let ok = !(u32::from(id) == self.own) & (0 < count);
+        let ok = (u32::from(id) != self.own) & (0 < count);
         if !ok {
             return self.close();
         }
