@@ -68,7 +68,7 @@ impl<'a> Counted<'a> {
         fixed & runs
     }
 
-    // Two returns alike: with one function for both, the loop over the peers does not vectorise, and takes half as long again.
+    // Two returns alike: with one function for both, the loop over the peers is not vectorised, and the whole takes a quarter longer.
     fn sound(&self) -> bool
         ensures { result ≡ slots_sound self.now.slots.hub.now self.now.slots.settings }
     {
