@@ -38,6 +38,7 @@ fn store_register(
     ensures { Runs hub.old hub.new region.old region.new id
         (register_stored id (slot_at (hub_of hub.old) id) (register_at offset) value) result }
 {
+    // By the offset that a guest gives: an enum of the registers would be made and matched in this place alone.
     let p = words::peer(hub, id as usize);
     match offset {
         0x08 => {
@@ -104,7 +105,9 @@ impl Restart {
 }
 
 // The peer's registers and entries take their reset values, its State Table entry 0; the others are rung if that is a change.
+// Inlined, so that the list is not copied.
 #[tactic(auto, using(crate::proofs::RunLaws::restarted_refusal, crate::proofs::RunLaws::serves_refused))]
+#[inline(always)]
 fn restarted(
     hub: &mut [u32],
     region: &mut [u8],
