@@ -38,8 +38,8 @@ fn store_register(
     ensures { Runs hub.old hub.new region.old region.new id
         (register_stored id (slot_at (hub_of hub.old) id) (register_at offset) value) result }
 {
-    // By the offset that a guest gives: an enum of the registers would be made and matched in this place alone.
     let p = words::peer(hub, id as usize);
+    // By the offset that a guest gives: an enum of the registers would be made and matched in this place alone.
     match offset {
         0x08 => {
             words::put_peer(hub, id as usize, registers::with_interrupt(p, value));
