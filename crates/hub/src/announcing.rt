@@ -39,6 +39,7 @@ fn store_register(
         (register_stored id (slot_at (hub_of hub.old) id) (register_at offset) value) result }
 {
     let p = words::peer(hub, id as usize);
+    // By the offset that a guest gives: an enum of the registers would be made and matched in this place alone.
     match offset {
         0x08 => {
             words::put_peer(hub, id as usize, registers::with_interrupt(p, value));
@@ -104,7 +105,9 @@ impl Restart {
 }
 
 // The peer's registers and entries take their reset values, its State Table entry 0; the others are rung if that is a change.
+// Inlined, so that the list is not copied.
 #[tactic(auto, using(crate::proofs::RunLaws::restarted_refusal, crate::proofs::RunLaws::serves_refused))]
+#[inline(always)]
 fn restarted(
     hub: &mut [u32],
     region: &mut [u8],

@@ -1,4 +1,5 @@
 // The calls of the hub. Each answers for any input, refuses by the number of the rules, and promises the parts of `step`.
+// Words and region are two parameters everywhere: the C interface lends them apart, and some calls have the words alone.
 #![tactic(auto)]
 
 mod announcing;
