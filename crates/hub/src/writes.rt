@@ -1,6 +1,4 @@
 // Writes of configuration space and of the MSI-X region.
-#![tactic(auto, unfolding(device::specs::Effect::effect, device::specs::Step::run_all, device::specs::Step::run, device::specs::Refusal::lent_to, device::specs::Refusal::access_of), using(crate::proofs::ReplyLaws::calls))]
-
 ghost use Rattle.device.specs.Call.{call};
 ghost use Rattle.device.specs.Call;
 ghost use Rattle.hub.specs.Answered.{done_reply};

@@ -11,8 +11,18 @@ use Rattle.device.specs.Step.{run, run_all}
 use Rattle.words.proofs.SlotLaws.{slot_kept}
 use Rattle.words.specs.Layout.{hub_of}
 use Rattle.hub.proofs.RefusalLaws.{region_checked}
-use Rattle.hub.proofs.ReplyLaws.{changes_accepted}
+use Rattle.hub.proofs.ReplyLaws.{changes_accepted, changes_refused}
+use Rattle.std.proofs.lemmas.Result.{err_from_is_err_and}
 use Rattle.hub.proofs.writes.msix_write.Goals as goal
+
+pub returns-in_err-caller : goal.returns-in_err-caller
+unfolding lent_to access_of
+returns-in_err-caller c =
+    let a = c.args in
+    let p = err_from_is_err_and c.from_residual.result c.from_residual.ensures.1 in
+    rw (p.1, p.2)
+    (changes_refused a.hub.now _ _
+    (region_checked a.hub.now a.id (Act.msix_write a.offset a.width a.value) a.offset a.width _ refl refl c.in_err-caller.ensures.is))
 
 pub returns-then-not-memory_on : goal.returns-then-not-memory_on
 unfolding lent_to access_of effect run_all run
