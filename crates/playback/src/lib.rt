@@ -91,11 +91,14 @@ pub const RECORD_BYTES: usize = 39;
 
 pub const REGION_BYTES: usize = 32768;
 
-// No answer has more bytes: done, and a delivery to each peer.
+// Done, and a delivery to each peer.
+const LONGEST_ANSWER: usize = 1 + 17 * device::MAX_PEERS;
+
+// No answer has more bytes.
 pub fn longest_answer() -> usize
     ensures { result ≡ longest }
 {
-    1 + 17 * device::max_peers()
+    LONGEST_ANSWER
 }
 
 // The lent memory has the lengths that any log needs, and the progress lies within it.
@@ -154,7 +157,10 @@ fn take_byte(
             written: 0,
         };
     }
-    records::answer(hub, region, Fields::of(held), p, out)
+    match out.first_chunk_mut() {
+        Some(room) => records::answer(hub, region, Fields::of(held), p, room),
+        None => unreachable!(),
+    }
 }
 
 // Takes the bytes of a piece, all of them or as many as the buffer has room for, and writes their answers.

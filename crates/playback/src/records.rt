@@ -5,7 +5,7 @@ ghost use Rattle.device.specs.Sizes.{max_peers, max_vectors};
 ghost use Rattle.device.specs.World.{World};
 ghost use Rattle.words.specs.Layout.{hub_words};
 ghost use Rattle.hub.specs.Answered.{number_of};
-ghost use Rattle.playback.specs.Answers.{answer, longest, max_total, set_up_number};
+ghost use Rattle.playback.specs.Answers.{answer, max_total, set_up_number};
 ghost use Rattle.playback.specs.Kinds.{kind_number};
 ghost use Rattle.playback.specs.Log.{Request, kind_of, record_length, request_of, settings_in, longest_record};
 ghost use Rattle.playback.specs.Player.{after};
@@ -49,9 +49,13 @@ fn playable(s: Settings) -> Result<Progress, Refusal>
     })
 }
 
-fn set_up(hub: &mut [u32], region: &mut [u8], fields: Fields, out: &mut [u8]) -> Taken
-    requires lent { (length hub.old ≡ hub_words max_peers max_vectors) × (length region.old ≡ max_total) }
-    requires room { longest ≤ length out.old }
+fn set_up(
+    hub: &mut [u32],
+    region: &mut [u8],
+    fields: Fields,
+    out: &mut [u8; super::LONGEST_ANSWER],
+) -> Taken
+    requires { (length hub.old ≡ hub_words max_peers max_vectors) × (length region.old ≡ max_total) }
     ensures { (held : List ℕ) → length held ≡ longest_record → (w : World) → Goes hub.new
         region.new held out.old out.new result.progress result.written
         (after (answer w (Request.set_up (settings_in fields.entry.bytes.now)))) }
@@ -104,11 +108,10 @@ fn play(
     region: &mut [u8],
     fields: Fields,
     p: Progress,
-    out: &mut [u8],
+    out: &mut [u8; super::LONGEST_ANSWER],
 ) -> Taken
     requires lent { (length hub.old ≡ hub_words max_peers max_vectors) × (length region.old ≡ max_total) }
     requires used { (p.words ≤ length hub.old) × (p.bytes ≤ length region.old) }
-    requires room { longest ≤ length out.old }
     ensures { (held : List ℕ) → length held ≡ longest_record → Goes hub.new region.new held
         out.old out.new result.progress result.written
         (after (answer (world_in hub.old region.old p.words p.bytes) (request_of (kind_number kind) fields.entry.bytes.now))) }
@@ -132,11 +135,10 @@ pub fn answer(
     region: &mut [u8],
     fields: Fields,
     p: Progress,
-    out: &mut [u8],
+    out: &mut [u8; super::LONGEST_ANSWER],
 ) -> Taken
     requires lent { (length hub.old ≡ hub_words max_peers max_vectors) × (length region.old ≡ max_total) }
     requires used { (p.words ≤ length hub.old) × (p.bytes ≤ length region.old) }
-    requires room { longest ≤ length out.old }
     ensures { (held : List ℕ) → length held ≡ longest_record → Goes hub.new region.new held
         out.old out.new result.progress result.written
         (after (answer (world_in hub.old region.old p.words p.bytes) (request_of (kind_of fields.entry.bytes.now)

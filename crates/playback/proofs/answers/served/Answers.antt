@@ -1,5 +1,5 @@
 -- `playback::answers::served` meets its contract: the deliveries stand behind the first byte.
-use Prim.Native.Nat.{suc, ◌+◌, ◌*◌, ◌≤◌}
+use Prim.Native.Nat.{◌-◌, suc, ◌+◌, ◌*◌, ◌≤◌}
 use mathlib.Core.List.{[], ◌∷◌, map}
 use mathlib.Core.Path.{◌≡◌, refl}
 use native.Mathlib.Omega.{arith}
@@ -25,7 +25,9 @@ returns c =
     let ids = take c.min.result a.list.targets in
     let same : ids ≡ take a.list.count a.list.targets = rw c.min.ensures (take_within 64 a.list.count a.list.targets long) in
     let ds = map (sent_at (hub_of a.hub.now) a.list.vector) ids in
-    let all = over_then 1 (0x81 ∷ []) a.out.now refl (omega arith) _ (all_delivered ds) _ c.put.ensures c.put_deliveries.ensures in
+    let room : length c.put.new.out - 1 ≡ 1088 = omega arith in
+    let some : 1 ≤ length a.out.now = omega arith in
+    let all = rw room at (over_then 1 (0x81 ∷ []) a.out.now refl some _ (all_delivered ds) c.put_deliveries.new.out c.put.ensures (rw room c.put_deliveries.ensures)) in
     let n : 1 + 17 * length ids ≡ suc (length (all_delivered ds)) = rw (length_all ds, length-map ids (sent_at (hub_of a.hub.now) a.list.vector)) (omega arith) in
     let few : length ids ≤ 64 = simp length-take (omega arith) in
     rw (← same) (record { bytes = all; count = n; fits = omega arith })

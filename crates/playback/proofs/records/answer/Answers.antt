@@ -2,7 +2,6 @@
 use mathlib.Core.Path.{refl}
 use native.Mathlib.Omega.{arith}
 use lib.ListN.{get_or}
-use Rattle.device.proofs.SizeLaws.{max_peers_pos}
 use Rattle.playback.proofs.GoesLaws.{unknown_goes}
 use Rattle.playback.proofs.OverLaws.{one_over}
 use Rattle.playback.proofs.RecordLaws.{unknown_request}
@@ -13,14 +12,10 @@ pub returns-in-Ok : goal.returns-in-Ok
 unfolding kind_of
 returns-in-Ok c = λ held n. rw (← c.in-Ok.ensures) (c.play.ensures held n)
 
-pub bounds-out-0 : goal.bounds-out-0
-bounds-out-0 c = omega (arith, max_peers_pos, c.requires.room)
-
 pub returns-in-Err : goal.returns-in-Err
 unfolding kind_of
 returns-in-Err c =
     let a = c.args in
-    let room = c.requires.room in
     λ held n. rw (unknown_request (get_or a.fields.bytes.now 0 0) a.fields.bytes.now c.in-Err.ensures)
     (unknown_goes a.hub.now a.region.now held a.out.now _ a.p.words a.p.bytes _
     (record {
@@ -30,4 +25,4 @@ returns-in-Err c =
       words = c.requires.used.0;
       bytes = c.requires.used.1;
       few = omega arith;
-    }) (record { bytes = one_over a.out.now 0x85 (omega (arith, max_peers_pos)); count = refl; fits = omega (arith, max_peers_pos) }))
+    }) (record { bytes = one_over a.out.now 0x85 (omega arith); count = refl; fits = omega arith }))
