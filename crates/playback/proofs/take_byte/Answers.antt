@@ -1,6 +1,7 @@
 -- `playback::take_byte` meets its contract.
 use native.Mathlib.Omega.{arith}
 use lib.ListN.{length-set}
+use Rattle.playback.proofs.LentLaws.{byte_lent}
 use Rattle.playback.proofs.GoesLaws.{ignored_goes, held_goes, answered_goes, goes_front}
 use Rattle.device.specs.Sizes.{max_peers}
 use Rattle.playback.proofs.take_byte.Goals as goal
@@ -19,11 +20,7 @@ pub of-requires : goal.of-requires
 of-requires c = simp length-set c.requires.lent.held_length
 
 pub answer-requires : goal.answer-requires
-answer-requires c =
-    let l = c.requires.lent in record {
-      lent = (l.hub_length, l.region_length);
-      used = (l.words, l.bytes);
-    }
+answer-requires c = rw c.of.ensures (byte_lent c.args.byte c.requires.lent)
 
 pub unreachable-requires : goal.unreachable-requires
 unfolding max_peers
