@@ -1,7 +1,7 @@
 // Deliveries by value, in ring order, and the rings at every other id.
 #![tactic(auto)]
 
-ghost use Rattle.std.specs.Prelude.{◌≡◌, ◌<◌, ◌≤◌, length};
+ghost use Rattle.std.specs.Prelude.{◌≡◌, ◌<◌, ◌≤◌, length, take};
 ghost use Rattle.device.specs.Ring;
 ghost use Rattle.device.specs.Ring.{peer_id, vector};
 ghost use Rattle.words.specs.Layout.{hub_of};
@@ -17,6 +17,15 @@ pub struct Deliveries {
     pub count: usize,
     pub vector: Vector,
     pub targets: [u8; device::MAX_PEERS],
+}
+
+impl Deliveries {
+    // The ids delivered to, in ring order.
+    pub fn delivered(&self) -> &[u8]
+        ensures { result.now ≡ take self.now.count self.now.targets }
+    {
+        &self.targets[..self.count.min(device::MAX_PEERS)]
+    }
 }
 
 // Count 0: the list is empty, whatever hub its records would be made from.
