@@ -76,8 +76,7 @@ fn put_deliveries(hub: &[u32], ids: &[u8], v: Vector, out: &mut [u8])
 fn served(hub: &[u32], list: Deliveries, out: &mut [u8; super::LONGEST_ANSWER]) -> usize
     ensures { Writes out.old out.new (Answers.done (listed (hub_of hub.now) list)) result }
 {
-    let targets = list.targets;
-    let ids = &targets[..list.count.min(device::MAX_PEERS)];
+    let ids = list.delivered();
     put(out, &[0x81]);
     put_deliveries(hub, ids, list.vector, &mut out[1..]);
     1 + 17 * ids.len()
