@@ -1,14 +1,11 @@
 -- The bytes of deliveries: how many there are, and one delivery more.
-use Prim.Native.Nat.{ℕ, min, ◌+◌, ◌*◌, ◌≤◌, ◌<◌}
-use mathlib.Core.Bool.{Bool, true, false}
+use Prim.Native.Nat.{ℕ, ◌+◌, ◌*◌, ◌≤◌, ◌<◌}
 use mathlib.Core.List.{List, [], ◌∷◌, ◌++◌, map, append_assoc, append-nil, map-append}
 use mathlib.Core.Path.{◌≡◌, refl, sym, ap, ◌∙◌}
 use native.Mathlib.Numerals.{add-one}
 use native.Mathlib.Omega.{arith}
 use lib.ListN.{length, take, get_or, length-append, length-map}
-use lib.Dec.{leb}
-use lib.Seq.{take_all, take-suc, length-take-le}
-use borrow.Author.Tests.{leb-true, leb-false}
+use lib.Seq.{take-suc, length-take-le}
 use Rattle.common.proofs.ByteLaws.{length_bytes}
 use Rattle.device.specs.declared.Delivery.{Delivery}
 use Rattle.device.specs.declared.Vector.{Vector}
@@ -50,13 +47,3 @@ module _ (hub : Hub) (v : Vector) (targets : List ℕ) (i : ℕ) where
         all_append (map (sent_at hub v) (take i targets)) _,
         append-nil,
       )
-
--- a count above a list's length takes the whole list
-pub take_within : (n k : ℕ) (l : List ℕ) → length l ≡ n → take (min k n) l ≡ take k l
-take_within n k l e = go (leb k n) refl
-  where
-    go : (t : Bool) → leb k n ≡ t → take (min k n) l ≡ take k l
-    go true t = let m : min k n ≡ k = omega (arith, leb-true k n t) in rw m
-    go false t =
-        let m : min k n ≡ n = omega (arith, leb-false k n t) in
-        rw m (take_all n l (omega arith) ∙ sym (take_all k l (omega (arith, leb-false k n t))))

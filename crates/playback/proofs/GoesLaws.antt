@@ -2,19 +2,20 @@
 use Prim.Native.Nat.{ℕ, ◌+◌, ◌≤◌, ◌<◌}
 use mathlib.Core.Bool.{Bool, true, false}
 use mathlib.Core.List.{List, [], ◌∷◌, ◌++◌}
-use mathlib.Core.Path.{◌≡◌, refl, sym, ap}
+use mathlib.Core.Path.{◌≡◌, refl, sym, ap, ◌∙◌}
 use native.Mathlib.Omega.{arith}
 use lib.ListN.{length, take, drop, get_or, set, length-set}
-use lib.Seq.{take_at}
+use lib.Seq.{length-take-le, take_at}
 use Rattle.device.specs.World.{World}
 use Rattle.playback.proofs.HeldLaws.{byte_held, byte_answered}
 use Rattle.playback.proofs.LentLaws.{lent_back}
-use Rattle.playback.proofs.OverLaws.{nothing_over}
+use Rattle.playback.proofs.OverLaws.{nothing_over, over_front}
 use Rattle.playback.proofs.RecordLaws.{record_short}
 use Rattle.playback.specs.declared.Progress.{Progress}
 use Rattle.playback.specs.Answers.{Outcome, answer, outcome_bytes}
-use Rattle.playback.specs.Log.{Request, kind_of, longest_record, record_length, request_of}
-use Rattle.playback.specs.Player.{player, after, fed}
+use Rattle.playback.specs.Log.{Request, kind_of, record_length, request_of}
+use Rattle.common.specs.Streams.{Fed}
+use Rattle.playback.specs.Player.{Player, player, after, fed}
 use Rattle.playback.specs.Promises.{Answers, Goes, Lent, Writes, world_in, player_in}
 use Rattle.words.specs.Layout.{hub_of}
 
@@ -81,8 +82,20 @@ module _ (hub region held out : List ℕ) (p : Progress) (byte : ℕ) (lent : Le
       }
 
   pub answered_goes : (hub_after region_after out_after : List ℕ) (next : Progress) (n : ℕ) → p.stopped ≡ false → record_length (get_or more 0 0) ≤ p.held + 1
-      → ((h : List ℕ) → length h ≡ longest_record → Goes hub_after region_after h out out_after next n
-      (after (answer (world_in hub region p.words p.bytes) (request_of (kind_of more) more))))
+      → Goes hub_after region_after more out out_after next n (after (answer (world_in hub region p.words p.bytes) (request_of (kind_of more) more)))
       → Goes hub_after region_after more out out_after next n (fed (player_in hub region held p) byte)
   answered_goes hub_after region_after out_after next n e l g =
-      rw (e, byte_answered (world_in hub region p.words p.bytes) held p.held byte lent.few l) (g more (simp length-set lent.held_length))
+      rw (e, byte_answered (world_in hub region p.words p.bytes) held p.held byte lent.few l) g
+
+-- a part of a buffer, its first places, was written over, and came back
+pub goes_front : {hub region held out room room_after : List ℕ} {p : Progress} {n : ℕ} {f : Fed Player} (k : ℕ) → k ≤ length out → room ≡ take k out
+    → Goes hub region held room room_after p n f → Goes hub region held out (room_after ++ drop k out) p n f
+goes_front {out = out} {room = room} {n = n} {f = f} k h e g =
+    let w = g.written in
+    let long : length room ≡ k = ap length e ∙ length-take-le k out h in
+    let few : length f.written ≤ k = omega (arith, w.count, w.fits) in
+    record {
+      player = g.player;
+      written = record { bytes = rw (w.bytes, e) (over_front f.written out k few); count = w.count; fits = omega (arith, w.fits) };
+      lent = g.lent;
+    }

@@ -6,14 +6,14 @@ use mathlib.Core.Path.{◌≡◌}
 use native.Mathlib.Omega.{arith}
 use lib.Seq.{length-take-le}
 use lib.Dec.{eqb, ltb}
-use lib.ListN.{length, drop, length-append, length-drop}
+use lib.ListN.{length, drop, set, length-append, length-drop, length-set}
 use borrow.Author.Tests.{eqb-true, leb-true, ltb-true}
 use Rattle.common.proofs.TestLaws.{every_true}
 use Rattle.common.specs.Tests.{first}
 use Rattle.playback.specs.declared.Progress.{Progress}
 use Rattle.playback.specs.Answers.{longest}
 use Rattle.playback.specs.Player.{inside}
-use Rattle.playback.specs.Promises.{Lent, lent_tests, is_lent, player_in, refusal_of}
+use Rattle.playback.specs.Promises.{Lent, anew, lent_tests, is_lent, player_in, refusal_of}
 
 module _ (hub region held : List ℕ) (p : Progress) where
   pub lent_facts : is_lent hub region held p ≡ true → Lent hub region held p
@@ -63,3 +63,39 @@ pub not_inside : (a b t : Bool) → (a || b) ≡ t → (not a && not b) ≡ not 
 not_inside true b t e = rw (← e)
 not_inside false true t e = rw (← e)
 not_inside false false t e = rw (← e)
+
+-- where nothing is held
+pub none_held : {hub region held : List ℕ} {p : Progress} {stopped : Bool} → Lent hub region held p
+    → Lent hub region held (record { words = p.words; bytes = p.bytes; held = 0; stopped = stopped })
+none_held l =
+    record {
+      hub_length = l.hub_length;
+      region_length = l.region_length;
+      held_length = l.held_length;
+      words = l.words;
+      bytes = l.bytes;
+      few = omega (arith, l.few);
+    }
+
+pub anew_lent : {hub region held : List ℕ} {p : Progress} → Lent hub region held p → Lent hub region held anew
+anew_lent l =
+    record {
+      hub_length = l.hub_length;
+      region_length = l.region_length;
+      held_length = l.held_length;
+      words = omega arith;
+      bytes = omega arith;
+      few = omega (arith, l.few);
+    }
+
+-- one byte was stored
+pub byte_lent : {hub region held : List ℕ} {p : Progress} (byte : ℕ) → Lent hub region held p → Lent hub region (set held p.held byte) p
+byte_lent byte l =
+    record {
+      hub_length = l.hub_length;
+      region_length = l.region_length;
+      held_length = simp length-set l.held_length;
+      words = l.words;
+      bytes = l.bytes;
+      few = simp length-set l.few;
+    }

@@ -1,10 +1,11 @@
 -- Bytes written over the front of a buffer: one or two stores, and a part of the buffer that is lent on behind what is written.
 use Prim.Native.Nat.{ℕ, ◌+◌, ◌-◌, ◌≤◌}
 use mathlib.Core.List.{List, [], ◌∷◌, ◌++◌, append_assoc, append-nil}
-use mathlib.Core.Path.{◌≡◌, refl, sym, ◌∙◌}
+use mathlib.Core.Path.{◌≡◌, refl, sym, ap, ◌∙◌}
 use native.Mathlib.Omega.{arith}
 use lib.ListN.{length, take, drop, set, length-append, length-drop, drop_of_length-le}
 use lib.Seq.{sets-eq, take_at, drop_at, take-length, drop-drop}
+use Rattle.std.proofs.lemmas.List.{drop-take, take-append-drop}
 use borrow.Rule.Slice.PartMut.{put_mid}
 use Rattle.common.specs.Lists.{over}
 
@@ -44,3 +45,13 @@ module _ (k : ℕ) (a old : List ℕ) (e : length a ≡ k) (h : k ≤ length old
       let front : take k (a ++ drop (length a) old) ≡ a = take_at a (drop (length a) old) k e in
       let all : k + length b ≡ length (a ++ b) = rw length-append (omega arith) in
       rw (m, back, after, front, append-nil, drop-drop (length b) k old, all) (sym (append_assoc a b _))
+
+-- written over the first n places alone
+pub over_front : (b l : List ℕ) (n : ℕ) → length b ≤ n → over b (take n l) ++ drop n l ≡ over b l
+unfolding over
+over_front b l n h =
+    let k = length b in
+    let cut : n ≡ k + (n - k) = omega arith in
+    let rest : drop k (take n l) ++ drop n l ≡ drop k l =
+    rw (cut, drop-take k (n - k) l, ← drop-drop (n - k) k l) (take-append-drop (n - k) (drop k l)) in
+    append_assoc b (drop k (take n l)) (drop n l) ∙ ap (λ (x : List ℕ). b ++ x) rest

@@ -25,7 +25,7 @@ use Rattle.playback.specs.Answers.{Outcome, answer, max_total, outcome_bytes, re
 use Rattle.playback.specs.Log.{Request}
 use Rattle.common.specs.Streams.{Fed}
 use Rattle.playback.specs.Player.{Player, after}
-use Rattle.playback.specs.Promises.{Goes, Lent, Writes}
+use Rattle.playback.specs.Promises.{Goes, Lent, Writes, anew}
 use Rattle.std.specs.Prelude.{IfOk}
 use Rattle.hub.specs.Answered.{done_reply}
 use Rattle.playback.proofs.OutcomeLaws.{done_bytes}
@@ -61,9 +61,6 @@ pub empty_hub : hub_of [] ≡ zero_hub
 unfolding hub_of fits hub_words
 empty_hub = rw (every_false (leb 0 max_peers ∷ leb 0 max_vectors ∷ eqb 0 10 ∷ []) 2 refl)
 
-unfoldable pub without : Progress
-without = record { words = 0; bytes = 0; held = 0; stopped = false }
-
 -- nothing held, going on
 pub in_use_is : (p : Progress) → p.held ≡ 0 → p.stopped ≡ false → p ≡ record { words = p.words; bytes = p.bytes; held = 0; stopped = false }
 in_use_is p h s =
@@ -75,9 +72,9 @@ goes_same e g = rw e g
 
 module _ (hub region held out out_after : List ℕ) (s : Settings) (w : World) (n : ℕ) where
   -- a refused set-up leaves no hub
-  pub refused_goes : Lent hub region held without → set_up_number s ≡ 1 → Writes out out_after (refused_by 1) n
-      → Goes hub region held out out_after without n (after (answer w (Request.set_up s)))
-  unfolding answer replied without
+  pub refused_goes : Lent hub region held anew → set_up_number s ≡ 1 → Writes out out_after (refused_by 1) n
+      → Goes hub region held out out_after anew n (after (answer w (Request.set_up s)))
+  unfolding answer replied
   refused_goes lent e ws = record { player = rw (e, empty_hub); written = rw e ws; lent = lent }
 
   -- an accepted one leaves a fresh hub in as many words, and a zero region in as many bytes, as it asks for

@@ -1,6 +1,6 @@
 -- What the player's functions promise: the memory that they are lent, with the progress, is a player, and goes on as the definition
 -- of one byte says.
-use Rattle.std.specs.Prelude.{ℕ, suc, ◌-◌, ◌≤◌, ◌<◌, Bool, cond, not, List, [], ◌∷◌, ◌≡◌, eqb, leb, ltb, length, take, Result, Ok, Err, MatchResult}
+use Rattle.std.specs.Prelude.{ℕ, suc, ◌-◌, ◌≤◌, ◌<◌, Bool, false, cond, not, List, [], ◌∷◌, ◌≡◌, eqb, leb, ltb, length, take, Result, Ok, Err, MatchResult}
 use Rattle.common.specs.Lists.{over}
 use Rattle.common.specs.Streams.{Fed, fed_all}
 use Rattle.common.specs.Tests.{every, row, first}
@@ -32,6 +32,10 @@ pub record Lent (hub region held : List ℕ) (p : Progress) : Type 0 where
   pub words : p.words ≤ length hub
   pub bytes : p.bytes ≤ length region
   pub few : p.held < length held
+
+-- no hub, and nothing held
+abbrev pub anew : Progress
+anew = record { words = 0; bytes = 0; held = 0; stopped = false }
 
 -- the same as tests
 abbrev pub lent_tests : (hub region held : List ℕ) → Progress → List Bool

@@ -5,7 +5,7 @@ ghost use Rattle.words.specs.Layout.{hub_of};
 ghost use Rattle.deliveries.specs.Listed.{listed};
 ghost use Rattle.gate.specs.RingOutcome.{sent_at};
 ghost use Rattle.playback.specs.Answers;
-ghost use Rattle.playback.specs.Answers.{accepted_bytes, longest, outcome_bytes, refused_by, valued, delivered, all_delivered};
+ghost use Rattle.playback.specs.Answers.{accepted_bytes, outcome_bytes, refused_by, valued, delivered, all_delivered};
 ghost use Rattle.playback.specs.Promises.{Writes};
 
 use deliveries::Deliveries;
@@ -73,19 +73,16 @@ fn put_deliveries(hub: &[u32], ids: &[u8], v: Vector, out: &mut [u8])
 }
 
 // Done, and each delivery.
-fn served(hub: &[u32], list: Deliveries, out: &mut [u8]) -> usize
-    requires { longest ≤ length out.old }
+fn served(hub: &[u32], list: Deliveries, out: &mut [u8; super::LONGEST_ANSWER]) -> usize
     ensures { Writes out.old out.new (Answers.done (listed (hub_of hub.now) list)) result }
 {
-    let targets = list.targets;
-    let ids = &targets[..list.count.min(device::MAX_PEERS)];
+    let ids = list.delivered();
     put(out, &[0x81]);
     put_deliveries(hub, ids, list.vector, &mut out[1..]);
     1 + 17 * ids.len()
 }
 
-fn write_accepted(hub: &[u32], answer: Accepted, out: &mut [u8]) -> usize
-    requires { longest ≤ length out.old }
+fn write_accepted(hub: &[u32], answer: Accepted, out: &mut [u8; super::LONGEST_ANSWER]) -> usize
     ensures { Writes out.old out.new (accepted_bytes (hub_of hub.now) answer) result }
 {
     match answer {
@@ -96,8 +93,11 @@ fn write_accepted(hub: &[u32], answer: Accepted, out: &mut [u8]) -> usize
 }
 
 // A call's answer, on the hub as it is after the call.
-pub fn write(hub: &[u32], outcome: Result<Accepted, Refusal>, out: &mut [u8]) -> usize
-    requires { longest ≤ length out.old }
+pub fn write(
+    hub: &[u32],
+    outcome: Result<Accepted, Refusal>,
+    out: &mut [u8; super::LONGEST_ANSWER],
+) -> usize
     ensures { Writes out.old out.new (outcome_bytes (hub_of hub.now) outcome) result }
 {
     match outcome {

@@ -8,10 +8,10 @@ mod fields;
 mod kinds;
 mod records;
 
-ghost use Rattle.std.specs.Prelude.{◌≡◌, ℕ, ◌≤◌, false, List, length, IfOk, OnOk, OnErr};
+ghost use Rattle.std.specs.Prelude.{◌≡◌, ℕ, ◌≤◌, List, length, IfOk, OnOk, OnErr};
 ghost use Rattle.playback.specs.Answers.{longest};
 ghost use Rattle.playback.specs.Player.{fed, fresh};
-ghost use Rattle.playback.specs.Promises.{Lent, Goes, Feeds, Refuses, Ends, player_in, is_lent, refusal_of, refusal_number, refusal_in};
+ghost use Rattle.playback.specs.Promises.{anew, Lent, Goes, Feeds, Refuses, Ends, player_in, is_lent, refusal_of, refusal_number, refusal_in};
 
 use fields::Fields;
 use std::error::Error;
@@ -33,7 +33,7 @@ impl Progress {
     // Nothing held, no hub: whatever the lent memory holds.
     pub fn start() -> Progress
         ensures fresh { (hub region held : List ℕ) → player_in hub region held result ≡ fresh }
-        ensures zero { result ≡ record { words = 0; bytes = 0; held = 0; stopped = false } }
+        ensures none { result ≡ anew }
     {
         Progress {
             words: 0,
@@ -91,11 +91,14 @@ pub const RECORD_BYTES: usize = 39;
 
 pub const REGION_BYTES: usize = 32768;
 
-// No answer has more bytes: done, and a delivery to each peer.
+// Done, and a delivery to each peer.
+const LONGEST_ANSWER: usize = 1 + 17 * device::MAX_PEERS;
+
+// No answer has more bytes.
 pub fn longest_answer() -> usize
     ensures { result ≡ longest }
 {
-    1 + 17 * device::max_peers()
+    LONGEST_ANSWER
 }
 
 // The lent memory has the lengths that any log needs, and the progress lies within it.
@@ -124,7 +127,8 @@ fn admit(hub: &[u32], region: &[u8], held: &[u8], p: Progress, room: usize) -> R
     Ok(())
 }
 
-// One byte more.
+// One byte more. What is lent and the progress stay parameters: a struct of the references needs a clause for each that it still is
+// the caller's.
 fn take_byte(
     hub: &mut [u32],
     region: &mut [u8],
@@ -154,7 +158,10 @@ fn take_byte(
             written: 0,
         };
     }
-    records::answer(hub, region, Fields::of(held), p, out)
+    match out.first_chunk_mut() {
+        Some(room) => records::answer(hub, region, Fields::of(held), p, room),
+        None => unreachable!(),
+    }
 }
 
 // Takes the bytes of a piece, all of them or as many as the buffer has room for, and writes their answers.
@@ -175,6 +182,7 @@ fn feed_lent(
     let mut progress = progress;
     let mut written = 0;
     for (taken, byte) in piece.iter().enumerate() {
+        // Tested by number: where an array is taken of a part of the buffer, nothing is known of that part afterwards.
         if last < written {
             return Report {
                 progress,

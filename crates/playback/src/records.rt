@@ -1,15 +1,14 @@
 // Records: how long each is, and what a whole one is answered by.
-ghost use Rattle.std.specs.Prelude.{◌≡◌, ℕ, ◌<◌, ◌≤◌, false, true, List, length, MatchResult};
+ghost use Rattle.std.specs.Prelude.{◌≡◌, ◌<◌, ◌≤◌, false, true, MatchResult};
 ghost use Rattle.device.specs.SetUp.{accepted, total};
-ghost use Rattle.device.specs.Sizes.{max_peers, max_vectors};
 ghost use Rattle.device.specs.World.{World};
 ghost use Rattle.words.specs.Layout.{hub_words};
 ghost use Rattle.hub.specs.Answered.{number_of};
-ghost use Rattle.playback.specs.Answers.{answer, longest, max_total, set_up_number};
+ghost use Rattle.playback.specs.Answers.{answer, max_total, set_up_number};
 ghost use Rattle.playback.specs.Kinds.{kind_number};
-ghost use Rattle.playback.specs.Log.{Request, kind_of, record_length, request_of, settings_in, longest_record};
+ghost use Rattle.playback.specs.Log.{Request, kind_of, record_length, request_of, settings_in};
 ghost use Rattle.playback.specs.Player.{after};
-ghost use Rattle.playback.specs.Promises.{Answers, Goes, world_in};
+ghost use Rattle.playback.specs.Promises.{anew, Answers, Goes, Lent, world_in};
 
 use super::answers::{self, Accepted};
 use super::fields::Fields;
@@ -49,12 +48,15 @@ fn playable(s: Settings) -> Result<Progress, Refusal>
     })
 }
 
-fn set_up(hub: &mut [u32], region: &mut [u8], fields: Fields, out: &mut [u8]) -> Taken
-    requires lent { (length hub.old ≡ hub_words max_peers max_vectors) × (length region.old ≡ max_total) }
-    requires room { longest ≤ length out.old }
-    ensures { (held : List ℕ) → length held ≡ longest_record → (w : World) → Goes hub.new
-        region.new held out.old out.new result.progress result.written
-        (after (answer w (Request.set_up (settings_in fields.entry.bytes.now)))) }
+fn set_up(
+    hub: &mut [u32],
+    region: &mut [u8],
+    fields: Fields,
+    out: &mut [u8; super::LONGEST_ANSWER],
+) -> Taken
+    requires { Lent hub.old region.old fields.bytes.now anew }
+    ensures { (w : World) → Goes hub.new region.new fields.entry.bytes.now out.old out.new
+        result.progress result.written (after (answer w (Request.set_up (settings_in fields.entry.bytes.now)))) }
 {
     let s = fields.settings();
     match playable(s) {
@@ -104,13 +106,11 @@ fn play(
     region: &mut [u8],
     fields: Fields,
     p: Progress,
-    out: &mut [u8],
+    out: &mut [u8; super::LONGEST_ANSWER],
 ) -> Taken
-    requires lent { (length hub.old ≡ hub_words max_peers max_vectors) × (length region.old ≡ max_total) }
-    requires used { (p.words ≤ length hub.old) × (p.bytes ≤ length region.old) }
-    requires room { longest ≤ length out.old }
-    ensures { (held : List ℕ) → length held ≡ longest_record → Goes hub.new region.new held
-        out.old out.new result.progress result.written
+    requires { Lent hub.old region.old fields.bytes.now p }
+    ensures { Goes hub.new region.new fields.entry.bytes.now out.old out.new
+        result.progress result.written
         (after (answer (world_in hub.old region.old p.words p.bytes) (request_of (kind_number kind) fields.entry.bytes.now))) }
 {
     if let Kind::SetUp = kind {
@@ -132,13 +132,11 @@ pub fn answer(
     region: &mut [u8],
     fields: Fields,
     p: Progress,
-    out: &mut [u8],
+    out: &mut [u8; super::LONGEST_ANSWER],
 ) -> Taken
-    requires lent { (length hub.old ≡ hub_words max_peers max_vectors) × (length region.old ≡ max_total) }
-    requires used { (p.words ≤ length hub.old) × (p.bytes ≤ length region.old) }
-    requires room { longest ≤ length out.old }
-    ensures { (held : List ℕ) → length held ≡ longest_record → Goes hub.new region.new held
-        out.old out.new result.progress result.written
+    requires { Lent hub.old region.old fields.bytes.now p }
+    ensures { Goes hub.new region.new fields.entry.bytes.now out.old out.new
+        result.progress result.written
         (after (answer (world_in hub.old region.old p.words p.bytes) (request_of (kind_of fields.entry.bytes.now)
         fields.entry.bytes.now))) }
 {

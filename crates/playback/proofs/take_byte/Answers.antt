@@ -1,6 +1,9 @@
 -- `playback::take_byte` meets its contract.
+use native.Mathlib.Omega.{arith}
 use lib.ListN.{length-set}
-use Rattle.playback.proofs.GoesLaws.{ignored_goes, held_goes, answered_goes}
+use Rattle.playback.proofs.LentLaws.{byte_lent}
+use Rattle.playback.proofs.GoesLaws.{ignored_goes, held_goes, answered_goes, goes_front}
+use Rattle.device.specs.Sizes.{max_peers}
 use Rattle.playback.proofs.take_byte.Goals as goal
 
 pub returns-then-p : goal.returns-then-p
@@ -17,15 +20,15 @@ pub of-requires : goal.of-requires
 of-requires c = simp length-set c.requires.lent.held_length
 
 pub answer-requires : goal.answer-requires
-answer-requires c =
-    let l = c.requires.lent in record {
-      lent = (l.hub_length, l.region_length);
-      used = (l.words, l.bytes);
-      room = c.requires.room;
-    }
+answer-requires c = rw c.of.ensures (byte_lent c.args.byte c.requires.lent)
+
+pub unreachable-requires : goal.unreachable-requires
+unfolding max_peers
+unreachable-requires c = omega (arith, c.in-None.ensures.cases, c.requires.room)
 
 pub returns : goal.returns
 returns c =
-    answered_goes c.args.hub.now c.args.region.now c.args.held.now c.args.out.now c.args.p
+    goes_front _ c.in-Some.ensures.cases.enough c.in-Some.ensures.cases.same
+    (answered_goes c.args.hub.now c.args.region.now c.args.held.now c.in-Some.room.now c.args.p
     c.args.byte c.requires.lent _ _ _ _ _ c.if-p.false (rw c.length.ensures at c.if-n-length.false)
-    (rw c.of.ensures at c.answer.ensures)
+    (rw c.of.ensures at c.answer.ensures))

@@ -4,4 +4,4 @@ use Rattle.playback.proofs.SetUpLaws.{empty_hub}
 use Rattle.playback.proofs.Progress.start.Goals as goal
 
 pub returns : goal.returns
-returns c = record { fresh = λ hub region held. rw empty_hub; zero = refl }
+returns c = record { fresh = λ hub region held. rw empty_hub; none = refl }

@@ -1,11 +1,6 @@
 -- `playback::answers::write` meets its contract.
-use native.Mathlib.Omega.{arith}
-use Rattle.device.proofs.SizeLaws.{max_peers_pos}
 use Rattle.playback.specs.Answers.{outcome_bytes}
 use Rattle.playback.proofs.answers.write.Goals as goal
-
-pub refused-requires : goal.refused-requires
-refused-requires c = omega (arith, max_peers_pos)
 
 pub returns-in-Ok : goal.returns-in-Ok
 unfolding outcome_bytes

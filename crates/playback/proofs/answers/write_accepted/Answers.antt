@@ -1,11 +1,6 @@
 -- `playback::answers::write_accepted` meets its contract.
-use native.Mathlib.Omega.{arith}
-use Rattle.device.proofs.SizeLaws.{max_peers_pos}
 use Rattle.playback.specs.Answers.{accepted_bytes}
 use Rattle.playback.proofs.answers.write_accepted.Goals as goal
-
-pub value-requires : goal.value-requires
-value-requires c = omega (arith, max_peers_pos)
 
 pub returns-in-Done : goal.returns-in-Done
 unfolding accepted_bytes

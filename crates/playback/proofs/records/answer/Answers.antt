@@ -2,8 +2,8 @@
 use mathlib.Core.Path.{refl}
 use native.Mathlib.Omega.{arith}
 use lib.ListN.{get_or}
-use Rattle.device.proofs.SizeLaws.{max_peers_pos}
 use Rattle.playback.proofs.GoesLaws.{unknown_goes}
+use Rattle.playback.proofs.LentLaws.{none_held}
 use Rattle.playback.proofs.OverLaws.{one_over}
 use Rattle.playback.proofs.RecordLaws.{unknown_request}
 use Rattle.playback.specs.Log.{kind_of}
@@ -11,23 +11,12 @@ use Rattle.playback.proofs.records.answer.Goals as goal
 
 pub returns-in-Ok : goal.returns-in-Ok
 unfolding kind_of
-returns-in-Ok c = λ held n. rw (← c.in-Ok.ensures) (c.play.ensures held n)
-
-pub bounds-out-0 : goal.bounds-out-0
-bounds-out-0 c = omega (arith, max_peers_pos, c.requires.room)
+returns-in-Ok c = rw (← c.in-Ok.ensures) c.play.ensures
 
 pub returns-in-Err : goal.returns-in-Err
 unfolding kind_of
 returns-in-Err c =
     let a = c.args in
-    let room = c.requires.room in
-    λ held n. rw (unknown_request (get_or a.fields.bytes.now 0 0) a.fields.bytes.now c.in-Err.ensures)
-    (unknown_goes a.hub.now a.region.now held a.out.now _ a.p.words a.p.bytes _
-    (record {
-      hub_length = c.requires.lent.0;
-      region_length = c.requires.lent.1;
-      held_length = n;
-      words = c.requires.used.0;
-      bytes = c.requires.used.1;
-      few = omega arith;
-    }) (record { bytes = one_over a.out.now 0x85 (omega (arith, max_peers_pos)); count = refl; fits = omega (arith, max_peers_pos) }))
+    rw (unknown_request (get_or a.fields.bytes.now 0 0) a.fields.bytes.now c.in-Err.ensures)
+    (unknown_goes a.hub.now a.region.now a.fields.bytes.now a.out.now _ a.p.words a.p.bytes _ (none_held c.requires)
+    (record { bytes = one_over a.out.now 0x85 (omega arith); count = refl; fits = omega arith }))
