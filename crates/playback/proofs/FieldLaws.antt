@@ -1,15 +1,13 @@
--- Fields of a record and numbers as bytes, in two parts.
-use Prim.Native.Nat.{ℕ, zero, suc, ◌+◌, ◌*◌, ◌/◌, ◌%◌, ◌^◌, ◌≤◌, ◌<◌}
+-- Fields of a record and numbers as bytes: those of the definition, and those of std.
+use Prim.Native.Nat.{ℕ, zero, suc, ◌+◌, ◌*◌, ◌/◌, ◌^◌, ◌≤◌, ◌<◌}
 use mathlib.Core.List.{List, [], ◌∷◌, ◌++◌}
 use mathlib.Core.Path.{◌≡◌, refl, sym, ap, ◌∙◌}
 use native.Mathlib.Nat.{mul_assoc, mul_comm, pow-suc}
 use native.Mathlib.Omega.{arith}
 use lib.Pow.{shr-shr, pow-add}
-use lib.ListN.{length, take, drop, get_or, length-drop}
-use lib.Seq.{take-add, take-length, take-suc, drop-drop, drop-cons, length-take-le, ext_get_or}
-use Rattle.common.proofs.ByteLaws.{length_bytes, get_d_bytes}
-use Rattle.common.proofs.WordLaws.{byte_mod}
-use Rattle.common.specs.Bytes.{byte, bytes, number}
+use lib.ListN.{length, take, drop, get_or}
+use lib.Seq.{take-length, take-suc, drop-cons, length-take-le}
+use Rattle.common.specs.Bytes.{bytes, number}
 use Rattle.playback.specs.Log.{field}
 use Rattle.std.specs.Int.{w16, w32, w64, byte_worth, from_le_bytes, sum_through, to_le_bytes}
 use Rattle.std.specs.List.{slice_index}
@@ -24,38 +22,9 @@ number_append [] ys = omega arith
 number_append (x ∷ xs) ys =
     rw (number_append xs ys, more_bits (length xs), mul_assoc 256 (2 ^ (8 * length xs)) (number ys)) (omega arith)
 
--- a field of a + b bytes is one of a bytes, and one of b bytes behind it
-pub field_parts : (at a b : ℕ) (r : List ℕ) → at + a ≤ length r → field at (a + b) r ≡ field at a r + 2 ^ (8 * a) * field (at + a) b r
-unfolding field
-field_parts at a b r h =
-    let n : length (take a (drop at r)) ≡ a = length-take-le a (drop at r) (rw (length-drop at r) (omega arith)) in
-    rw (take-add a b (drop at r), number_append (take a (drop at r)) (take b (drop a (drop at r))), n, drop-drop a at r)
-
 pub field_one : (at : ℕ) (r : List ℕ) → at + 1 ≤ length r → field at 1 r ≡ get_or r at 0
 unfolding field number
 field_one at r h = rw (drop-cons r at 0 (omega arith)) (omega arith)
-
--- the bytes of a number in two parts, the first from its low bytes alone
-pub bytes_parts : (a b x : ℕ) → bytes (a + b) x ≡ bytes a x ++ bytes b (x / 2 ^ (8 * a))
-unfolding bytes
-bytes_parts zero b x = let n : zero + b ≡ b = omega arith in let y : x / 2 ^ (8 * 0) ≡ x = omega arith in rw (n, y)
-bytes_parts (suc a) b x =
-    let n : suc a + b ≡ suc (a + b) = omega arith in
-    let e : 8 * suc a ≡ 8 + 8 * a = omega arith in
-    rw (n, bytes_parts a b (x / 256), e, ← shr-shr x 8 (8 * a))
-
-bytes_same : (n x y : ℕ) → ((j : ℕ) → j < n → byte j x ≡ byte j y) → bytes n x ≡ bytes n y
-bytes_same n x y same =
-    ext_get_or 0 _ _ (length_bytes n x ∙ sym (length_bytes n y)) (λ j l. at j (rw length_bytes at l))
-  where
-    at : (j : ℕ) → j < n → get_or (bytes n x) j 0 ≡ get_or (bytes n y) j 0
-    at j l = get_d_bytes n x j l ∙ same j l ∙ sym (get_d_bytes n y j l)
-
-pub bytes_low : (n x : ℕ) → bytes n (x % 2 ^ (8 * n)) ≡ bytes n x
-bytes_low n x = bytes_same n _ x (λ j l. byte_mod j n x l)
-
-pub bytes_split : (a b x : ℕ) → bytes a (x % 2 ^ (8 * a)) ++ bytes b (x / 2 ^ (8 * a) % 2 ^ (8 * b)) ≡ bytes (a + b) x
-bytes_split a b x = rw (bytes_low a x, bytes_low b (x / 2 ^ (8 * a))) (sym (bytes_parts a b x))
 
 -- one byte lent as a list
 pub one_part : (at : ℕ) (r : List ℕ) → at + 1 ≤ length r → take 1 (drop at r) ≡ field at 1 r ∷ []

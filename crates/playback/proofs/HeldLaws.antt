@@ -1,8 +1,8 @@
 -- One byte more: what is held with it, and what the player does.
 use Prim.Native.Nat.{ℕ, ◌+◌, ◌≤◌, ◌<◌}
-use mathlib.Core.Bool.{true, false}
+use mathlib.Core.Bool.{false}
 use mathlib.Core.List.{List, [], ◌∷◌, ◌++◌}
-use mathlib.Core.Path.{◌≡◌, refl, sym}
+use mathlib.Core.Path.{◌≡◌, sym}
 use native.Mathlib.Numerals.{add-one}
 use native.Mathlib.Omega.{arith}
 use lib.ListN.{length, take, get_or, set, length-set}
@@ -39,7 +39,3 @@ module _ (w : World) (held : List ℕ) (at byte : ℕ) (h : at < length held) wh
   unfolding fed come whole kind_of
   byte_answered l =
       rw joined (rw (kind, long, le-leb _ _ l, request_front (at + 1) (set held at byte) (get_or (set held at byte) 0 0) l))
-
-pub byte_ignored : (w : World) (held : List ℕ) (byte : ℕ) → fed (player w held true) byte ≡ fed_to (player w held true) []
-unfolding fed
-byte_ignored w held byte = refl

@@ -1,4 +1,4 @@
--- Bytes written over the front of a buffer: one or two stores, and a part of the buffer that is lent on behind what is written.
+-- Bytes written over the front of a buffer: one store, and a part of the buffer that is lent on behind what is written.
 use Prim.Native.Nat.{ℕ, ◌+◌, ◌-◌, ◌≤◌}
 use mathlib.Core.List.{List, [], ◌∷◌, ◌++◌, append_assoc, append-nil}
 use mathlib.Core.Path.{◌≡◌, refl, sym, ap, ◌∙◌}
@@ -12,10 +12,6 @@ use Rattle.common.specs.Lists.{over}
 pub one_over : (l : List ℕ) (a : ℕ) → 1 ≤ length l → set l 0 a ≡ over (a ∷ []) l
 unfolding over
 one_over l a h = sets-eq (a ∷ []) l 0 (omega arith)
-
-pub two_over : (l : List ℕ) (a b : ℕ) → 2 ≤ length l → set (set l 0 a) 1 b ≡ over (a ∷ b ∷ []) l
-unfolding over
-two_over l a b h = sets-eq (a ∷ b ∷ []) l 0 (omega arith)
 
 pub nothing_over : (l : List ℕ) → over [] l ≡ l
 unfolding over

@@ -51,9 +51,6 @@ unknown_length kind h = rw (past bodies kind h)
 pub above : (n k : ℕ) → n < k → (k ≡ suc n → ⊥) → suc n < k
 above n k h e = omega arith
 
-pub eleven : (k : ℕ) → 10 < k → k < 12 → k ≡ 11
-eleven k h l = omega arith
-
 -- a kind above 0B asks for nothing, and no other stops the player
 pub unknown_request : (kind : ℕ) (r : List ℕ) → 12 ≤ kind → request_of kind r ≡ Request.unknown
 unfolding request_of

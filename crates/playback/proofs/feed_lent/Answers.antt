@@ -2,13 +2,10 @@
 use Prim.Native.Nat.{◌-◌, ◌≤◌, ◌<◌}
 use mathlib.Core.Path.{◌≡◌}
 use native.Mathlib.Omega.{arith}
-use lib.ListN.{length, take, drop, length-take, length-drop}
+use lib.ListN.{length, length-take, length-drop}
 use Rattle.playback.proofs.FeedLaws.{fed_none, fed_more, fed_full, fed_whole}
 use Rattle.playback.specs.Answers.{longest}
 use Rattle.playback.proofs.feed_lent.Goals as goal
-
-pub overflow_sub-last : goal.overflow_sub-last
-overflow_sub-last c = omega (arith, c.longest_answer.ensures, c.requires)
 
 pub loop-taken-init : goal.loop-taken-init
 loop-taken-init c = fed_none _ _ _ _ _ _ c.requires.lent
@@ -21,12 +18,6 @@ returns-then-last-written c =
 pub take_byte-t-requires : goal.take_byte-t-requires
 take_byte-t-requires c =
     record { lent = c.loop-taken.invariant.goes.lent; room = simp (length-take, length-drop) (omega (arith, c.longest_answer.ensures, c.requires.room)) }
-
-pub overflow_add-written : goal.overflow_add-written
-overflow_add-written c =
-    let l = c.loop-taken in
-    let part : length (take (length l.out - l.written) (drop l.written l.out)) ≤ length l.out - l.written = simp (length-take, length-drop) (omega arith) in
-    omega (arith, part, c.take_byte-t.ensures.written.fits, c.well_formed.1.1.1.1.1.0)
 
 pub loop-taken-preserved : goal.loop-taken-preserved
 loop-taken-preserved c =

@@ -20,9 +20,6 @@ returns-then-progress c =
       written = rw e (record { bytes = sym (nothing_over _); count = refl; fits = omega arith });
     }
 
-pub bounds-out-0 : goal.bounds-out-0
-bounds-out-0 c = omega (arith, c.in_ok-admit.ensures.facts.1)
-
 pub returns : goal.returns
 returns c =
     let a = c.args in

@@ -1,6 +1,5 @@
 -- `playback::take_byte` meets its contract.
 use native.Mathlib.Omega.{arith}
-use lib.ListN.{length-set}
 use Rattle.playback.proofs.LentLaws.{byte_lent}
 use Rattle.playback.proofs.GoesLaws.{ignored_goes, held_goes, answered_goes, goes_front}
 use Rattle.device.specs.Sizes.{max_peers}
@@ -15,9 +14,6 @@ pub returns-then-n-length : goal.returns-then-n-length
 returns-then-n-length c =
     held_goes c.args.hub.now c.args.region.now c.args.held.now c.args.out.now c.args.p
     c.args.byte c.requires.lent c.if-p.false (rw c.length.ensures at c.if-n-length.true)
-
-pub of-requires : goal.of-requires
-of-requires c = simp length-set c.requires.lent.held_length
 
 pub answer-requires : goal.answer-requires
 answer-requires c = rw c.of.ensures (byte_lent c.args.byte c.requires.lent)

@@ -21,8 +21,3 @@ pub hub_words-requires : goal.hub_words-requires
 hub_words-requires c =
     let f = accepted_facts c.args.s (sym c.accepted.ensures ∙ c.if-not-accepted.false) in
     (f.peers, f.vectors)
-
-pub returns : goal.returns
-returns c =
-    rw (← c.total-total.ensures, ← c.hub_words.ensures)
-    (sym c.accepted.ensures ∙ c.if-not-accepted.false, c.if-total.false, refl)
