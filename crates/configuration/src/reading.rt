@@ -52,7 +52,7 @@ fn word(s: Settings, p: Peer, at: u64) -> u64
 }
 
 // A read of some bytes of one word, little-endian: an aligned access of 1, 2 or 4 bytes lies in one.
-// Four arguments and no struct, here and in `write`: the hub's calls hand them over one by one.
+// Arguments one by one, here and in `write`: the hub's `Caller`, which holds who reads, stands above this crate.
 pub fn read(s: Settings, p: Peer, at: u64, width: u64) -> u64
     requires { at % 4 + width ≤ 4 }
     ensures is { result ≡ configuration_read s p at width }

@@ -14,7 +14,7 @@ pub fn in_table(s: Settings, at: u64) -> bool
     at / 16 < s.vectors
 }
 
-// The word of an entry that an offset names.
+// The word of an entry that an offset names. A number, here and in `with_word`: `entry_word` and `with_word` of the definitions take it.
 #[tactic(auto, unfolding(device::specs::Msix::entry_word))]
 pub fn word(e: Entry, k: u64) -> u32
     ensures { result ≡ entry_word e k }
@@ -27,7 +27,7 @@ pub fn word(e: Entry, k: u64) -> u32
     }
 }
 
-// An entry with one word stored to: each word has a mask of the bits that a store replaces, and fixed bits stay 0.
+// An entry with one word stored to: fixed bits stay 0, and the words of address high and data have none.
 #[tactic(auto, unfolding(device::specs::Msix::with_word))]
 pub fn with_word(e: Entry, k: u64, value: u32) -> Entry
     ensures { result ≡ with_word e k value }
@@ -37,12 +37,9 @@ pub fn with_word(e: Entry, k: u64, value: u32) -> Entry
             low: value & 0xFFFFFFFC,
             ..e
         },
-        1 => Entry {
-            high: value & 0xFFFFFFFF,
-            ..e
-        },
+        1 => Entry { high: value, ..e },
         2 => Entry {
-            payload: value & 0xFFFFFFFF,
+            payload: value,
             ..e
         },
         3 => Entry {

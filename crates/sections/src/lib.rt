@@ -8,6 +8,8 @@ ghost use Rattle.device.specs.declared.SectionKind.TheVariants.{Nothing, Output}
 
 use device::{PeerId, SectionAnswer, SectionKind, Settings};
 
+// A clause says that the settings are accepted, here and below: `Settings` is of crate device, and a type around it would be made
+// and taken apart at each call.
 // The owner of the output section that holds a range: the section that its first byte lies in, if the range ends there too.
 fn owner_of(s: Settings, offset: u64, length: u64) -> Option<PeerId>
     requires numbers { accepted s ≡ true }

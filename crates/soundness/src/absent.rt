@@ -17,7 +17,7 @@ struct Gap {
 }
 
 impl<'a> Slots<'a> {
-    fn connected(&self, i: usize) -> bool
+    pub fn connected(&self, i: usize) -> bool
         requires { i < self.now.settings.peers }
         ensures { result ≡ joined self.now.hub.now i }
     {
@@ -43,10 +43,10 @@ impl<'a> Slots<'a> {
             all: self.peer(from),
         };
         for i in from + 1..peers {
-            let p = self.peer(i);
-            if p.connected == 1 {
+            if self.connected(i) {
                 return gap;
             }
+            let p = self.peer(i);
             gap.to = i + 1;
             gap.all = parts::together(gap.all, p);
         }

@@ -27,7 +27,7 @@ pub fn peer_fixed(p: Peer) -> bool
         & only(0x01, p.interrupt)
 }
 
-// Not `p == Peer::reset(0)`: crate device, where a derive would stand, is not to change.
+// Not `p == Peer::reset(0)`: a derive would stand in crate device, whose source is what its theorems speak of.
 pub fn peer_reset(p: Peer) -> bool
     ensures { result ≡ Sound.peer_reset p }
 {
@@ -41,7 +41,8 @@ pub fn peer_reset(p: Peer) -> bool
         & (p.state == 0)
 }
 
-// The bits that are set in the registers of either peer. Not `impl BitOr`: `Peer` is of crate device, which is not to change.
+// The bits that are set in the registers of either peer. Not `impl BitOr`: it would stand in crate device, whose source is what its
+// theorems speak of.
 pub fn together(a: Peer, b: Peer) -> Peer
     ensures { result ≡ Together.together a b }
 {

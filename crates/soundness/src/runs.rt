@@ -65,7 +65,7 @@ impl<'a> Slots<'a> {
         ensures { MatchOption result (Failed self.now.hub.now (i + 1)) (Scanned self.now.hub.now (i + 1)) }
     {
         let p = self.peer(i);
-        let used = p.connected == 1;
+        let used = self.connected(i);
         let reset = parts::peer_reset(p);
         let ok = used | reset;
         if !ok {

@@ -23,7 +23,6 @@ fn sum(s: Settings) -> Option<u64>
         .checked_add(s.common)
 }
 
-// By `as`: there is no `From` between usize and u64.
 fn tested(s: Settings, all: u64) -> bool
     requires { all ≡ SetUp.total s }
     ensures { result ≡ SetUp.accepted s }
@@ -49,13 +48,11 @@ fn tested(s: Settings, all: u64) -> bool
 pub fn accepted(s: Settings) -> bool
     ensures { result ≡ SetUp.accepted s }
 {
-    match sum(s) {
-        Some(all) => tested(s, all),
-        None => false,
-    }
+    sum(s).is_some_and(|all| tested(s, all))
 }
 
-// The region's length.
+// The region's length. A clause says that the settings are accepted: `Settings` is of crate device, and a type around it would be
+// made and taken apart at each call.
 pub fn total(s: Settings) -> u64
     requires { SetUp.accepted s ≡ true }
     ensures { result ≡ SetUp.total s }

@@ -13,7 +13,6 @@ pub struct Slots<'a> {
 }
 
 impl<'a> Slots<'a> {
-    // By `as`: there is no `From` between u64 and usize.
     pub fn peers(&self) -> usize
         ensures value { result ≡ self.now.settings.peers }
         ensures few { result ≤ 2 ^ 16 }

@@ -64,6 +64,7 @@ fn words_reset(hub: &[u32], at: Places) -> bool
     faults == 0
 }
 
+// Two ids and no range, here and in `entries_reset`: the definition `run_of` takes two.
 // No entry of the peers from one id up to another has a bit set but those of these masks, in its address-low and control words.
 pub fn entries_only(hub: &[u32], from: usize, to: usize, low: u32, control: u32) -> bool
     requires { Run hub.now from to }

@@ -12,6 +12,7 @@ pub fn joined(low: u32, high: u32) -> u64
     u64::from(low) + 4294967296 * u64::from(high)
 }
 
+// By hand for the reason given at `settings_words`.
 fn settings_from(hub: &[u32]) -> Settings
     requires { 10 ≤ length hub.now }
     ensures { result ≡ settings_of hub.now }
@@ -36,7 +37,8 @@ pub fn settings(hub: &[u32]) -> Settings
     settings_from(hub)
 }
 
-// By hand, since the array and `Settings` are of other crates, and crate device may not change: no `From` can stand here.
+// By hand: the array and `Settings` are of other crates, so no `From` can stand here, nor in crate device, whose source is what its
+// theorems speak of.
 fn settings_words(s: Settings) -> [u32; 10]
     requires { Storable s }
     ensures { result ≡ settings_words s }

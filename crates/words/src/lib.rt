@@ -2,7 +2,8 @@
 // hub that the words are.
 #![tactic(auto)]
 
-// No struct carries what is known of the words, as `Known`: a host lends them anew with each call of the C interface.
+// `Known` and `fits` stay clauses, here and in gate, deliveries and hub: a struct would borrow the words, which these calls go on to
+// change. `Entries`, and `Slots` of soundness, are for words that are only read.
 
 mod columns;
 mod entries;
@@ -19,7 +20,7 @@ pub use peers::{peer, put_peer};
 pub use sizes::{Counts, counts_of, fits, hub_words};
 pub use slots::{put_fresh, put_reset, put_zero};
 
-// The words of the largest hub.
+// The words of the largest hub. The formula of `hub_words` once more: a constant calls no function.
 pub const MAX_HUB_WORDS: usize = 10
     + 8 * device::MAX_PEERS
     + 4 * (device::MAX_PEERS * device::MAX_VECTORS);

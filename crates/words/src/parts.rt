@@ -4,6 +4,7 @@ ghost use Rattle.words.specs.Parts.{peer_from, entry_from, entry_words, Copied};
 
 use device::{Entry, Peer};
 
+// By hand, here and in `entry_from`, for the reason given at `header::settings_words`.
 pub fn peer_from(hub: &[u32], at: usize) -> Peer
     requires { at + 8 ≤ length hub.now }
     ensures { result ≡ peer_from hub.now at }

@@ -16,7 +16,8 @@ pub fn put_peer(hub: &mut [u32], i: usize, p: Peer)
     requires { Known hub.old i }
     ensures { hub_of hub.new ≡ with_slot (hub_of hub.old) i (with_peer (slot_at (hub_of hub.old) i) p) }
 {
-    // By hand, since the array and `Peer` are of other crates, and crate device may not change: no `From` can stand here.
+    // By hand: the array and `Peer` are of other crates, so no `From` can stand here, nor in crate device, whose source is what its
+    // theorems speak of.
     let values = [
         p.connected,
         p.command,

@@ -66,7 +66,7 @@ pub fn fits(hub: &[u32]) -> bool
     hub.len() == hub_words(peers, vectors)
 }
 
-// None of both where the words are no hub.
+// None of both where the words are no hub: `deliveries::sent` answers for any words, and its clause `sent_at` says zeros for these.
 pub fn counts_of(hub: &[u32]) -> Counts
     ensures { (result.peers ≡ (hub_of hub.now).settings.peers) × (result.vectors ≡ (hub_of hub.now).settings.vectors) }
 {

@@ -7,7 +7,8 @@ ghost use Rattle.words.specs.Layout.{hub_words, hub_of, Known, Storable};
 use super::sizes::Counts;
 use device::{Entry, Peer, Settings};
 
-// A peer's registers and entries at their reset values, connected (1) or not (0).
+// A peer's registers and entries at their reset values, connected (1) or not (0): the number is the word's, as `reset_slot` and
+// `Peer::reset` take it.
 pub fn put_reset(hub: &mut [u32], i: usize, connected: u32)
     requires { Known hub.old i }
     ensures { hub_of hub.new ≡ with_slot (hub_of hub.old) i (reset_slot (hub_of hub.old).settings.vectors connected) }

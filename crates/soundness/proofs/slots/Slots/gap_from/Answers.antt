@@ -1,6 +1,5 @@
-use mathlib.Core.Path.{refl}
+use mathlib.Core.Path.{refl, sym, ◌∙◌}
 use native.Mathlib.Omega.{arith}
-use borrow.Author.Tests.{ne_eqb}
 use Rattle.soundness.proofs.AbsentLaws.{gap_first, gap_more}
 use Rattle.soundness.proofs.slots.Slots.gap_from.Goals as goal
 
@@ -15,5 +14,5 @@ loop-i-preserved c =
       end = refl;
       run =
           rw (c.together-gap.ensures, c.peer-p.ensures, ← i.end)
-          (gap_more _ _ _ i.run (omega (arith, c.peers-peers.ensures.value)) (rw (c.peer-p.ensures, ← i.end) at (ne_eqb _ _ c.if-p-eq1.false)));
+          (gap_more _ _ _ i.run (omega (arith, c.peers-peers.ensures.value)) (rw (← i.end) at (sym c.connected.ensures ∙ c.if-connected.false)));
     }
