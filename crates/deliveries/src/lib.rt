@@ -14,7 +14,8 @@ use words::Entries;
 // Who was delivered to, in ring order, and the vector: a call rings one vector, each id at most once. Address and data stand in
 // the targets' entries, which no ring changes.
 // A count beside an array, and no list with a `push`: the compiler copies that, and a reset at 4 by 4 takes 1.12 of the time.
-// No invariant of the count: one clause asks for it, and `Lists` gives it to each caller.
+// No invariant of the count: the fields are public, and it would ask more of whoever makes a list. `hand_out` asks for it, here and
+// in `ivshmem`, and `Lists` gives it.
 #[derive(Clone, Copy)]
 pub struct Deliveries {
     pub count: usize,
@@ -77,7 +78,7 @@ pub fn ring_others(hub: &mut [u32], who: u64) -> Deliveries
     ensures deliveries { Lists (hub_of hub.new) result (Ring.ring_others who (hub_of hub.old)).deliveries }
 {
     let peers = words::settings(hub).peers;
-    // An array of its own, here and in `hand_out`: so it is not copied.
+    // An array of its own, so that it is not copied: with a list that has a `push`, a reset at 4 by 4 takes 1.12 of the time.
     let mut targets = [0; device::MAX_PEERS];
     let mut count = 0;
     for i in 0..peers as u16 {
@@ -118,6 +119,7 @@ pub fn hand_out(hub: &[u32], table: &mut [Delivery], list: Deliveries) -> usize
     ensures { (table.new ≡ handed_out (listed (hub_of hub.now) list) table.old) × (result ≡ list.count) }
 {
     let entries = Entries::of(hub);
+    // An array of its own, so that it is not copied: over `list.delivered()` a doorbell takes 1.07 of the time.
     let targets = list.targets;
     for (i, target) in targets[..list.count].iter().enumerate() {
         table[i] = sent_in(&entries, *target, list.vector);

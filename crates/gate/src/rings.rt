@@ -1,4 +1,5 @@
-// One ring of one vector at one id of a hub.
+// One ring of one vector at one id of a hub: two parameters, as `Ring.ring` of the definitions takes them.
+// `Usable` is a clause, and no type of lent words has it: a ring changes the words.
 ghost use Rattle.std.specs.Prelude.{◌≡◌};
 ghost use Rattle.device.specs.Ring;
 ghost use Rattle.device.specs.World.{slot_at, entry_at};

@@ -1,21 +1,30 @@
 // The switches of a target.
-ghost use Rattle.std.specs.Prelude.{◌≡◌};
+ghost use Rattle.std.specs.Prelude.{◌≡◌, ◌<◌};
+ghost use Rattle.common.specs.Bytes.{bit};
 ghost use Rattle.device.specs.Ring.{gate_of, opens};
 ghost use Rattle.gate.specs.PassedGate.{passed_gate};
 
 use device::{Entry, Gate, Peer};
 
-// Bit k of a word is `word / 2^k % 2`; bit 0 is written like the others.
+// Bit k of a word is 1.
+fn bit(word: u32, k: u32) -> bool
+    requires { k < 32 }
+    ensures { result ≡ bit k word }
+{
+    (word >> k) % 2 == 1
+}
+
+#[tactic(auto, unfolding(device::specs::Ring::gate_of))]
 pub fn gate_of(p: Peer, e: Entry) -> Gate
     ensures { result ≡ gate_of p e }
 {
     Gate {
-        master: p.command / 4 % 2 == 1,
-        enabled: p.message / 128 % 2 == 1,
-        masked: p.message / 64 % 2 == 1,
-        silenced: e.control / 1 % 2 == 1,
-        interrupt: p.interrupt / 1 % 2 == 1,
-        oneshot: p.privileged / 1 % 2 == 1,
+        master: bit(p.command, 2),
+        enabled: bit(p.message, 7),
+        masked: bit(p.message, 6),
+        silenced: bit(e.control, 0),
+        interrupt: bit(p.interrupt, 0),
+        oneshot: bit(p.privileged, 0),
     }
 }
 

@@ -15,6 +15,7 @@ use super::{Refusal, refusals};
 use deliveries::Deliveries;
 
 // The State Table entry of a peer takes a value in any case; only where State has changed is vector 0 rung at every other id.
+// `state` and `changed` are two parameters, as `entered` of the definitions takes them.
 fn announce(hub: &mut [u32], region: &mut [u8], id: u64, state: u32, changed: bool) -> Deliveries
     requires { Ready hub.old region.old id }
     ensures { Runs hub.old hub.new region.old region.new id (entered id state changed) result }
@@ -39,7 +40,7 @@ fn store_register(
         (register_stored id (slot_at (hub_of hub.old) id) (register_at offset) value) result }
 {
     let p = words::peer(hub, id as usize);
-    // By the offset that a guest gives: an enum of the registers would be made and matched in this place alone.
+    // By the offset that a guest gives, which `register_at` of the definitions takes too.
     match offset {
         0x08 => {
             words::put_peer(hub, id as usize, registers::with_interrupt(p, value));

@@ -1,5 +1,6 @@
 // The calls of the hub. Each answers for any input, refuses by the number of the rules, and promises the parts of `step`.
 // Words and region are two parameters everywhere: the C interface lends them apart, and some calls have the words alone.
+// Id, offset and width are apart too: so C's calls and the constructors of `Act` take them.
 #![tactic(auto)]
 
 mod announcing;

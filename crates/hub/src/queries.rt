@@ -20,9 +20,7 @@ pub fn is_connected(hub: &[u32], id: u64) -> Result<bool, Refusal>
 {
     match joining::joining_refusal(hub, id) {
         Ok(()) => Ok(false),
-        Err(refusal) => match refusal {
-            Refusal::Connected => Ok(true),
-            _ => Err(refusal),
-        },
+        Err(Refusal::Connected) => Ok(true),
+        Err(refusal) => Err(refusal),
     }
 }

@@ -11,7 +11,7 @@ use super::refusals::{Access, Lending, Space};
 use super::{Refusal, refusals};
 use device::SectionAnswer;
 
-// The two regions of 4096 bytes.
+// The two regions of 4096 bytes, which are one `Space`; no read of configuration space comes here.
 #[derive(Clone, Copy)]
 enum Region {
     Registers,
@@ -37,7 +37,7 @@ fn region_read(hub: &[u32], id: u64, region: Region, access: Access) -> Result<u
 {
     let caller = refusals::space_refusal(hub, Lending::NOTHING, id, Space::Registers, access)?;
     if !registers::memory_on(caller.peer) {
-        return Ok(0xFFFFFFFF);
+        return Ok(registers::UNMAPPED as u32);
     }
     match region {
         Region::Registers => {

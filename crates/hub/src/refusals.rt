@@ -56,7 +56,8 @@ impl Lending {
     }
 }
 
-// A caller that is let pass, as the hub has it.
+// A caller that is let pass, as the hub has it. `Admitted` and `Found` are clauses, and no invariant of it: they tell of words that
+// the call goes on to change.
 #[derive(Clone, Copy)]
 pub struct Caller {
     pub settings: Settings,

@@ -46,7 +46,7 @@ pub fn ivshmem_msix_write(hub: &mut [u32], id: u64, offset: u64, width: u64, val
     replies::done(hub::msix_write(hub, id, offset, width, value))
 }
 
-// A section's kind, and its owner's id where it has one.
+// A section's kind, and its owner's id where it has one, as C has them.
 #[tactic(auto, unfolding(device::specs::Sections::kind_number, device::specs::Sections::owner_number))]
 fn kind_and_owner(kind: SectionKind) -> (u32, u32)
     ensures kind { result.0 ≡ kind_number kind }

@@ -32,7 +32,7 @@ pub struct SetUpNumbers {
     pub subsystem: u16,
 }
 
-// An answer, and the number of records written, which is for the host alone.
+// An answer, and the number of records written, which is for the host alone. C has a struct of numbers for a `Result`.
 #[repr(C)]
 #[derive(Clone, Copy)]
 pub struct Counted {
@@ -40,7 +40,8 @@ pub struct Counted {
     pub count: usize,
 }
 
-// The answer to the section question, in numbers: the kind, the owner's id where there is one, and 1 where the peer may store.
+// The answer to the section question, in numbers, since C has no `SectionKind`: the kind, the owner's id where there is one, and 1
+// where the peer may store.
 #[repr(C)]
 #[derive(Clone, Copy)]
 pub struct SectionNumbers {

@@ -1,4 +1,4 @@
-// Results as the numbers that C gets.
+// Results as the numbers that C gets. Functions, and no `From`: `Reply` and `Result` are both of other crates.
 ghost use Rattle.std.specs.Prelude.{◌≡◌};
 ghost use Rattle.hub.specs.Answered.{done_reply, flag_reply, value_reply};
 

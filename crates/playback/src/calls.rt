@@ -1,4 +1,4 @@
-// The calls that records ask for: one function for each kind.
+// The calls that records ask for: one function for each kind, as the hub has one for each.
 ghost use Rattle.std.specs.Prelude.{◌≡◌, ℕ, List, [], ◌∷◌, IfOk};
 ghost use Rattle.device.specs.Call.{Act};
 ghost use Rattle.device.specs.Sizes.{max_peers};

@@ -1,5 +1,7 @@
 // Plays a log: it is fed in pieces, cut anywhere, and its answers are written to a lent buffer. Hub, region and the bytes held of a
 // record that is not whole yet are lent too, and the rest of the progress goes in and comes back. No call copies the hub.
+// Everywhere what is lent and the progress are parameters: a struct of the references needs a clause for each that it still is the
+// caller's.
 #![tactic(auto)]
 
 mod answers;
@@ -17,7 +19,8 @@ use fields::Fields;
 use std::error::Error;
 use std::fmt;
 
-// Where a player stands, beside what its lent memory holds.
+// Where a player stands, beside what its lent memory holds: `player_in` and `anew` of specs/Promises.antt take its numbers and its
+// flag so.
 #[derive(Clone, Copy)]
 pub struct Progress {
     // the words and the bytes of the lent memory that are the hub and its region: none without an accepted set-up
@@ -79,7 +82,7 @@ impl fmt::Display for Refusal {
 
 impl Error for Refusal {}
 
-// What one byte leaves.
+// What one byte leaves: no `Report`, since a byte is always taken.
 #[derive(Clone, Copy)]
 struct Taken {
     progress: Progress,
@@ -94,7 +97,7 @@ pub const REGION_BYTES: usize = 32768;
 // Done, and a delivery to each peer.
 const LONGEST_ANSWER: usize = 1 + 17 * device::MAX_PEERS;
 
-// No answer has more bytes.
+// No answer has more bytes. The number is a constant beside it, since the length of an array calls no function.
 pub fn longest_answer() -> usize
     ensures { result ≡ longest }
 {
@@ -127,8 +130,7 @@ fn admit(hub: &[u32], region: &[u8], held: &[u8], p: Progress, room: usize) -> R
     Ok(())
 }
 
-// One byte more. What is lent and the progress stay parameters: a struct of the references needs a clause for each that it still is
-// the caller's.
+// One byte more.
 fn take_byte(
     hub: &mut [u32],
     region: &mut [u8],
