@@ -98,24 +98,21 @@ pub fn ivshmem_protocol_read(
 }
 
 // `server::start`, its answer in numbers.
-#[unsafe(no_mangle)]
-pub extern "C" fn ivshmem_protocol_start(vectors: u64) -> Started
+pub fn ivshmem_protocol_start(vectors: u64) -> Started
     ensures { result ≡ started vectors }
 {
     Started::from(server::start(vectors))
 }
 
 // `server::join`, its answer in numbers.
-#[unsafe(no_mangle)]
-pub extern "C" fn ivshmem_protocol_join(server: Server, buffer: &mut [u8]) -> Served
+pub fn ivshmem_protocol_join(server: Server, buffer: &mut [u8]) -> Served
     ensures { Serves (join server (length buffer.old)) buffer.old buffer.new result }
 {
     Served::of(server, server::join(server, buffer))
 }
 
 // `server::leave`, its answer in numbers.
-#[unsafe(no_mangle)]
-pub extern "C" fn ivshmem_protocol_leave(server: Server, id: u64, buffer: &mut [u8]) -> Served
+pub fn ivshmem_protocol_leave(server: Server, id: u64, buffer: &mut [u8]) -> Served
     ensures { Serves (leave server id (length buffer.old)) buffer.old buffer.new result }
 {
     Served::of(server, server::leave(server, id, buffer))

@@ -36,7 +36,7 @@ pub struct Progress {
 // What a record says.
 #[derive(Clone, Copy)]
 pub enum Message {
-    // no whole record yet: more bytes are wanted
+    // No whole record yet: more bytes are wanted. One of the messages and no `Option`, since C reads it as message 0 (`numbers_of`).
     More,
     // the version is 0
     Version,
@@ -72,15 +72,14 @@ fn accepted(step: Step, progress: Progress, counts: &mut [u8], vectors: u64, inp
     let bytes = records::gathered(progress.bytes, held, input);
     let wanted = records::RECORD_BYTES - held;
     if input.len() < wanted {
-        let next = Progress {
-            held: held + input.len(),
-            bytes,
-            ..progress
-        };
         return Answer {
             message: Message::More,
             taken: input.len(),
-            progress: next,
+            progress: Progress {
+                held: held + input.len(),
+                bytes,
+                ..progress
+            },
         };
     }
     let heard = Record::whole(bytes, input[wanted - 1]);
@@ -91,16 +90,15 @@ fn accepted(step: Step, progress: Progress, counts: &mut [u8], vectors: u64, inp
         vectors,
     };
     let message = known.read_record(heard);
-    let next = Progress {
-        due: known.step.number(),
-        own: known.own,
-        held: 0,
-        bytes: [0; 8],
-    };
     Answer {
         message,
         taken: wanted,
-        progress: next,
+        progress: Progress {
+            due: known.step.number(),
+            own: known.own,
+            held: 0,
+            bytes: [0; 8],
+        },
     }
 }
 

@@ -1,5 +1,5 @@
 // A record's bytes: those held and those of the input, and the signed number that the last eight make.
-ghost use Rattle.std.specs.Prelude.{◌≡◌, ◌<◌, [], ◌∷◌, get_or};
+ghost use Rattle.std.specs.Prelude.{◌≡◌, ◌≤◌, [], ◌∷◌, get_or};
 ghost use Rattle.common.specs.Bytes.{number};
 ghost use Rattle.common.specs.Lists.{tabulate};
 ghost use Rattle.reader.specs.Parts.{placed, told, IdOf};
@@ -16,25 +16,14 @@ pub struct Record {
     pub number: i64,
 }
 
-// The byte at place k: one of the input, where its bytes behind those held reach so far, else the one that was there.
-fn place(bytes: [u8; 8], held: usize, input: &[u8], k: usize) -> u8
-    requires { k < 8 }
-    ensures { result ≡ placed bytes held input.now k }
-{
-    if k < held {
-        return bytes[k];
-    }
-    input.get(k - held).copied().unwrap_or(bytes[k])
-}
-
 // The eight bytes with the input behind those held, as far as there is room.
 pub fn gathered(bytes: [u8; 8], held: usize, input: &[u8]) -> [u8; 8]
+    requires { held ≤ 8 }
     ensures { result ≡ tabulate 8 (placed bytes held input.now) }
 {
+    let room = input.len().min(8 - held);
     let mut gathered = bytes;
-    for k in 0..8 {
-        gathered[k] = place(bytes, held, input, k);
-    }
+    gathered[held..held + room].copy_from_slice(&input[..room]);
     gathered
 }
 
@@ -95,14 +84,12 @@ impl Record {
         self.number == -1
     }
 
-    // The id that the number is, if it is one. By two comparisons, since with `u8::try_from` a record takes 1.03 of the time.
+    // The id that the number is, if it is one.
     pub fn id(self) -> Option<u8>
         ensures { IdOf (told self).value result }
     {
-        let named = (0 <= self.number) & (self.number < super::IDS as i64);
-        if named {
-            return Some(self.number as u8);
-        }
-        None
+        u8::try_from(self.number)
+            .ok()
+            .filter(|&id| usize::from(id) < super::IDS)
     }
 }

@@ -48,9 +48,7 @@ impl Error for Refusal {}
 fn largest(counts: &[u8]) -> u8
     ensures { result ≡ fold max 0 counts.now }
 {
-    counts
-        .iter()
-        .fold(0, |most: u8, count: &u8| most.max(*count))
+    counts.iter().copied().max().unwrap_or(0)
 }
 
 // A progress and counts that a reader may have at a step.
@@ -63,8 +61,8 @@ fn is_good(step: Step, p: Progress, counts: &[u8], vectors: u64) -> bool
     ((p.own as usize) < super::IDS)
         & (p.held <= 8)
         & (most <= vectors)
-        & (step.is_after(Step::Id) | (p.own == 0))
-        & (step.is_after(Step::Memory) | (most == 0))
+        & ((Step::Id < step) | (p.own == 0))
+        & ((Step::Memory < step) | (most == 0))
 }
 
 // The step that is due, or the refusal: first the vectors, then the counts' number, then what they and the progress say.

@@ -1,5 +1,5 @@
 // What one whole record does, by the step that is due.
-ghost use Rattle.std.specs.Prelude.{◌≡◌, ◌<◌, ◌≤◌, ltb, length};
+ghost use Rattle.std.specs.Prelude.{◌≡◌, ◌<◌, ◌≤◌, length};
 ghost use Rattle.reader.specs.Sizes.{ids, most_vectors};
 
 use super::Message;
@@ -23,13 +23,6 @@ impl Step {
         ensures { result ≡ step_number self }
     {
         self as u32
-    }
-
-    // Whether it comes after another.
-    pub fn is_after(self, other: Step) -> bool
-        ensures { result ≡ ltb (step_number other) (step_number self) }
-    {
-        other < self
     }
 }
 
