@@ -2,6 +2,7 @@ pub mod JoinedLaws
 pub mod FreeLaws
 pub mod ListLaws
 pub mod SetsLaws
+pub mod WriteLaws
 pub mod MessageLaws
 pub mod RoomLaws
 pub mod ServeLaws

@@ -1,11 +1,12 @@
 -- What a list has for each of its elements.
-use Prim.Native.Nat.{ℕ, zero, suc, ◌+◌, ◌*◌}
+use Prim.Native.Nat.{ℕ, zero, suc, ◌+◌, ◌*◌, ◌<◌}
 use mathlib.Core.List.{List, [], ◌∷◌, ◌++◌, map, append_assoc, append-nil}
 use mathlib.Core.Path.{◌≡◌, refl, sym, ap, ◌∙◌}
 use native.Mathlib.Omega.{arith}
 use native.Mathlib.Numerals.{add-one}
 use native.Mathlib.Nat.{mul-suc}
-use lib.ListN.{length, replicate, length-append}
+use lib.ListN.{length, replicate, length-append, take, get_or}
+use lib.Seq.{take-suc}
 use Rattle.server.specs.Messages.{each_of}
 
 module _ {A B : Type 0} (f : A → List B) where
@@ -26,6 +27,10 @@ module _ {A B : Type 0} (f : A → List B) where
 
   pub each_more : (n : ℕ) (x : A) → each_of f (replicate (n + 1) x) ≡ each_of f (replicate n x) ++ f x
   each_more n x = rw (add-one n) (each_suc n x)
+
+  -- for the next of a list
+  pub each_next : (xs : List A) (i : ℕ) (d : A) → i < length xs → each_of f (take (i + 1) xs) ≡ each_of f (take i xs) ++ f (get_or xs i d)
+  each_next xs i d h = rw (add-one i, take-suc xs i d h, each_append (take i xs) (get_or xs i d ∷ []), each_one (get_or xs i d))
 
   pub each_same : (g : A → List B) → ((x : A) → f x ≡ g x) → (xs : List A) → each_of f xs ≡ each_of g xs
   unfolding each_of

@@ -13,12 +13,16 @@ use Rattle.server.specs.Messages.{Sent, to, all_to, each_of, vector_of, vectors_
 use Rattle.server.specs.Messages.{join_messages, leave_messages, bytes_of, sent_bytes, all_bytes, MessagesStandInTens}
 use Rattle.server.specs.declared.messages.Said.TheVariants.{Vector, Gone}
 use Rattle.server.specs.declared.notices.Notice.TheVariants.{ToJoiner, OfJoiner, OfLeaver}
-use Rattle.server.specs.Parts.{message_of, written, written_times, notice_times, notice_to, notice_bytes, notices_bytes, start_bytes, join_bytes}
+use Rattle.server.specs.declared.messages.Message.{Message}
+use Rattle.server.specs.Parts.{record_of_said, message_of, written, written_times, notice_times, notice_to, notice_bytes, notices_bytes, start_bytes, join_bytes}
 
 -- each of the ten bytes
 pub sent_ten : (m : Sent) → length (sent_bytes m) ≡ 10
 unfolding sent_bytes bytes_of bytes
 sent_ten m = refl
+
+pub written_ten : (m : Message) → length (written m) ≡ 10
+written_ten m = sent_ten (to m.client (record_of_said m.said))
 
 pub all_length : (sent : List Sent) → length (all_bytes sent) ≡ 10 * length sent
 unfolding all_bytes

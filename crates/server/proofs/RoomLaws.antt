@@ -16,17 +16,17 @@ use Rattle.server.specs.declared.messages.Message.{Message}
 use Rattle.server.specs.declared.notices.Notice.{Notice}
 use Rattle.server.proofs.FreeLaws.{at_joined, at_free, below_next, clients_fewer}
 use Rattle.server.proofs.ListLaws.{each_append, each_one, each_length}
-use Rattle.server.proofs.MessageLaws.{sent_ten}
+use Rattle.server.proofs.MessageLaws.{written_ten}
 use Rattle.server.specs.Clients.{is_joined, joined_at, joined_below, clients}
 use Rattle.common.specs.Bytes.{bytes}
-use Rattle.server.specs.Messages.{to, each_of, bytes_of, sent_bytes, most_sent, buffer_bytes}
+use Rattle.server.specs.Messages.{each_of, bytes_of, sent_bytes, most_sent, buffer_bytes}
 use Rattle.server.specs.declared.messages.Said.TheVariants.{Vector}
 use Rattle.server.specs.declared.notices.Notice.TheVariants.{ToJoiner, OfJoiner, OfLeaver}
-use Rattle.server.specs.Parts.{record_of_said, message_of, written, written_times, notice_times, notice_to, notice_bytes, notices_bytes, start_bytes, join_bytes}
+use Rattle.server.specs.Parts.{message_of, written, written_times, notice_times, notice_to, notice_bytes, notices_bytes, start_bytes, join_bytes}
 use Rattle.server.specs.Serving.{in_range}
 
 pub times_length : (n : ℕ) (m : Message) → length (written_times n m) ≡ 10 * n
-times_length n m = each_length written 10 (λ m. sent_ten (to m.client (record_of_said m.said))) (replicate n m) ∙ rw (length-replicate n m)
+times_length n m = each_length written 10 written_ten (replicate n m) ∙ rw (length-replicate n m)
 
 pub notices_length : (n : Notice) (to : List ℕ) → length (notices_bytes n to) ≡ 10 * (notice_times n * length to)
 notices_length n to =
@@ -40,7 +40,7 @@ vectors_few vectors e = leb-true vectors most_vectors (and_right (leb 1 vectors)
 
 -- the first of the four parts of a join, and all
 pub start_length : (id : ℕ) → 30 ≡ length (start_bytes id)
-unfolding sent_bytes bytes_of bytes
+unfolding each_of sent_bytes bytes_of bytes
 start_length id = refl
 
 pub join_length : (joined id vectors : ℕ)
@@ -49,7 +49,7 @@ pub join_length : (joined id vectors : ℕ)
     + length (notices_bytes (ToJoiner id vectors) (clients joined))
     + 10 * vectors
     + length (notices_bytes (OfJoiner id vectors) (clients joined))
-unfolding sent_bytes bytes_of bytes
+unfolding each_of sent_bytes bytes_of bytes
 join_length joined id vectors = rw (length-append, length-append, length-append, times_length vectors (message_of id (Vector id)))
 
 module _ (joined id vectors : ℕ) (h : id < ids) (free : is_joined joined id ≡ false) (range : in_range vectors ≡ true) where

@@ -4,7 +4,7 @@ ghost use Rattle.reader.specs.Sizes.{ids};
 ghost use Rattle.server.specs.Clients.{is_joined, joined_below, clients, lowest_free, joined_with, joined_without};
 
 // The ids are those below this number.
-const IDS: u64 = 64;
+const IDS: u64 = reader::IDS as u64;
 
 // Bit i is 1 where id i is joined.
 #[derive(Clone, Copy)]

@@ -12,11 +12,10 @@ ghost use Rattle.std.proofs.lemmas.List.Edits.{sets};
 ghost use Rattle.reader.specs.Sizes.{ids};
 ghost use Rattle.server.specs.Clients.{is_joined};
 ghost use Rattle.server.specs.Messages.{buffer_bytes};
-ghost use Rattle.server.specs.Parts.{start_bytes, join_bytes};
 ghost use Rattle.server.specs.Serving.{in_range, started, refusal, refusal_number, started_as, served_as, join_as, leave_as, join, leave, Serves};
 
 use clients::Clients;
-use messages::{Message, Said};
+use messages::{Message, Said, Writer};
 use notices::Notice;
 pub use refusals::Refusal;
 
@@ -128,43 +127,35 @@ fn check(server: Server, room: usize) -> Result<(), Refusal>
     Ok(())
 }
 
-// The version, the joiner's own id, and the memory.
-fn put_start(out: &mut [u8], id: u8)
-    requires { 30 ≤ length out.old }
-    ensures { out.new ≡ sets out.old 0 (start_bytes id) }
-{
-    let version = Message {
-        client: id,
-        said: Said::Version,
-    };
-    let own = Message {
-        client: id,
-        said: Said::Id(id),
-    };
-    let memory = Message {
-        client: id,
-        said: Said::Memory,
-    };
-    messages::put(out, 0, version);
-    messages::put(out, 1, own);
-    messages::put(out, 2, memory);
-}
+impl Writer<'_> {
+    ghost use Rattle.server.specs.Parts.{HasRoom, Writes, start_bytes, join_bytes};
 
-// All messages of a join, and their number.
-fn put_join(out: &mut [u8], joined: Clients, id: u8, vectors: usize) -> usize
-    requires { length (join_bytes joined.0 id vectors) ≤ length out.old }
-    ensures { (out.new ≡ sets out.old 0 (join_bytes joined.0 id vectors)) × (10 * result ≡ length (join_bytes joined.0 id vectors)) }
-{
-    let known = Notice::ToJoiner(id, vectors);
-    let own = Message {
-        client: id,
-        said: Said::Vector(id),
-    };
-    let joiner = Notice::OfJoiner(id, vectors);
-    put_start(out, id);
-    let second = notices::put_notices(out, 3, joined, known);
-    messages::put_times(out, second, own, vectors);
-    notices::put_notices(out, second + vectors, joined, joiner)
+    // The version, the joiner's own id, and the memory.
+    fn put_start(&mut self, id: u8)
+        requires { HasRoom self.old (start_bytes id) }
+        ensures { Writes self.old self.new (start_bytes id) }
+    {
+        for said in [Said::Version, Said::Id(id), Said::Memory] {
+            self.put(Message { client: id, said });
+        }
+    }
+
+    // All messages of a join.
+    fn put_join(&mut self, joined: Clients, id: u8, vectors: usize)
+        requires { HasRoom self.old (join_bytes joined.0 id vectors) }
+        ensures { Writes self.old self.new (join_bytes joined.0 id vectors) }
+    {
+        let known = Notice::ToJoiner(id, vectors);
+        let own = Message {
+            client: id,
+            said: Said::Vector(id),
+        };
+        let joiner = Notice::OfJoiner(id, vectors);
+        self.put_start(id);
+        self.put_notices(joined, known);
+        self.put_times(own, vectors);
+        self.put_notices(joined, joiner);
+    }
 }
 
 // A join with an id that is free.
@@ -173,10 +164,11 @@ fn join_as(server: Server, id: u8, out: &mut [u8]) -> Accepted
     ensures { Serves (join_as server id) out.old out.new (served_as server (Ok result)) }
 {
     let joined = Clients(server.joined);
-    let messages = put_join(out, joined, id, server.vectors as usize);
+    let mut writer = Writer { out, messages: 0 };
+    writer.put_join(joined, id, server.vectors as usize);
     Accepted {
         id,
-        messages,
+        messages: writer.messages,
         server: Server {
             joined: joined.with(id).0,
             ..server
@@ -190,11 +182,11 @@ fn leave_as(server: Server, id: u8, out: &mut [u8]) -> Accepted
     ensures { Serves (leave_as server id) out.old out.new (served_as server (Ok result)) }
 {
     let staying = Clients(server.joined).without(id);
-    let left = Notice::OfLeaver(id);
-    let told = notices::put_notices(out, 0, staying, left);
+    let mut writer = Writer { out, messages: 0 };
+    writer.put_notices(staying, Notice::OfLeaver(id));
     Accepted {
         id,
-        messages: told,
+        messages: writer.messages,
         server: Server {
             joined: staying.0,
             ..server

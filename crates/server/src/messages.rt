@@ -1,11 +1,11 @@
-// Messages in the lent buffer: one byte of client id, and a record of nine.
+// Messages in a lent buffer: one byte of client id, and a record of nine.
 ghost use Rattle.std.specs.Prelude.{◌≡◌, ◌+◌, ◌*◌, ◌≤◌, length};
 ghost use Rattle.std.proofs.lemmas.List.Edits.{sets};
 ghost use Rattle.reader.specs.Records.{Record};
 ghost use Rattle.server.specs.Messages.{unsigned};
 ghost use Rattle.server.specs.Parts.{record_of_said, written, written_times};
 
-pub const SENT_BYTES: usize = 10;
+const SENT_BYTES: usize = 10;
 
 // What a message says.
 #[derive(Clone, Copy)]
@@ -51,24 +51,36 @@ pub struct Message {
     pub said: Said,
 }
 
-// One message at place n.
-pub fn put(out: &mut [u8], n: usize, m: Message)
-    requires { 10 * n + 10 ≤ length out.old }
-    ensures { out.new ≡ sets out.old (10 * n) (written m) }
-{
-    let at = SENT_BYTES * n;
-    let number = m.said.number();
-    out[at] = m.client;
-    out[at + 1] = m.said.kind();
-    out[at + 2..at + 10].copy_from_slice(&number.to_le_bytes());
+// The lent buffer, and how many messages stand at its front.
+#[derive(Drop)]
+pub struct Writer<'a> {
+    pub out: &'a mut [u8],
+    pub messages: usize,
 }
 
-// The same message several times, from place n on.
-pub fn put_times(out: &mut [u8], n: usize, m: Message, times: usize)
-    requires { 10 * (n + times) ≤ length out.old }
-    ensures { out.new ≡ sets out.old (10 * n) (written_times times m) }
-{
-    for i in 0..times {
-        put(out, n + i, m);
+impl Writer<'_> {
+    ghost use Rattle.server.specs.Parts.{HasRoom, Writes};
+
+    // One message more.
+    pub fn put(&mut self, message: Message)
+        requires { HasRoom self.old (written message) }
+        ensures { Writes self.old self.new (written message) }
+    {
+        let at = SENT_BYTES * self.messages;
+        let number = message.said.number();
+        self.out[at] = message.client;
+        self.out[at + 1] = message.said.kind();
+        self.out[at + 2..at + SENT_BYTES].copy_from_slice(&number.to_le_bytes());
+        self.messages += 1;
+    }
+
+    // The same message several times.
+    pub fn put_times(&mut self, message: Message, times: usize)
+        requires { HasRoom self.old (written_times times message) }
+        ensures { Writes self.old self.new (written_times times message) }
+    {
+        for _ in 0..times {
+            self.put(message);
+        }
     }
 }

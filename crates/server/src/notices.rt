@@ -6,8 +6,7 @@ ghost use Rattle.server.specs.Clients.{joined_at, clients};
 ghost use Rattle.server.specs.Parts.{notice_times, notice_to, notices_bytes};
 
 use super::clients::Clients;
-use super::messages;
-use super::messages::{Message, Said};
+use super::messages::{Message, Said, Writer};
 
 // What is said of one client and each of the others.
 #[derive(Clone, Copy)]
@@ -53,29 +52,27 @@ impl Notice {
     }
 }
 
-// The messages for one client, if it is joined, from place n on, and the place behind them.
-fn put_notice(out: &mut [u8], n: usize, joined: Clients, notice: Notice, client: u64) -> usize
-    requires { (client < ids) × (10 * n + length (notices_bytes notice (joined_at joined.0 client)) ≤ length out.old) }
-    ensures { (out.new ≡ sets out.old (10 * n) (notices_bytes notice (joined_at joined.0 client)))
-        × (10 * result ≡ 10 * n + length (notices_bytes notice (joined_at joined.0 client))) }
-{
-    if joined.contains(client) {
-        let times = notice.times();
-        messages::put_times(out, n, notice.message(client as u8), times);
-        return n + times;
-    }
-    n
-}
+impl Writer<'_> {
+    ghost use Rattle.server.specs.Parts.{HasRoom, Writes};
 
-// The messages for each client, up to the last one that is joined.
-pub fn put_notices(out: &mut [u8], n: usize, joined: Clients, notice: Notice) -> usize
-    requires { 10 * n + length (notices_bytes notice (clients joined.0)) ≤ length out.old }
-    ensures { (out.new ≡ sets out.old (10 * n) (notices_bytes notice (clients joined.0)))
-        × (10 * result ≡ 10 * n + length (notices_bytes notice (clients joined.0))) }
-{
-    let mut next = n;
-    for client in 0..joined.end() {
-        next = put_notice(out, next, joined, notice, client);
+    // The messages for one client, if it is joined.
+    fn put_notice(&mut self, joined: Clients, notice: Notice, client: u64)
+        requires id { client < ids }
+        requires room { HasRoom self.old (notices_bytes notice (joined_at joined.0 client)) }
+        ensures { Writes self.old self.new (notices_bytes notice (joined_at joined.0 client)) }
+    {
+        if joined.contains(client) {
+            self.put_times(notice.message(client as u8), notice.times());
+        }
     }
-    next
+
+    // The messages for each client, up to the last one that is joined.
+    pub fn put_notices(&mut self, joined: Clients, notice: Notice)
+        requires { HasRoom self.old (notices_bytes notice (clients joined.0)) }
+        ensures { Writes self.old self.new (notices_bytes notice (clients joined.0)) }
+    {
+        for client in 0..joined.end() {
+            self.put_notice(joined, notice, client);
+        }
+    }
 }

@@ -2,6 +2,7 @@
 ghost use Rattle.std.specs.Prelude.{◌≡◌};
 ghost use Rattle.server.specs.Serving.{refusal_number};
 
+use std::error::Error;
 use std::fmt;
 
 #[derive(Clone, Copy, Debug, PartialEq, Eq)]
@@ -33,12 +34,14 @@ impl Refusal {
 
 impl fmt::Display for Refusal {
     fn fmt<W: fmt::Write>(&self, f: &mut fmt::Formatter<W>) -> fmt::Result {
-        match self {
-            Refusal::VectorsOutOfRange => write!(f, "the number of vectors is out of range"),
-            Refusal::NotJoined => write!(f, "the id is not joined"),
-            Refusal::StateUnsound => write!(f, "the state is not sound"),
-            Refusal::BufferTooSmall => write!(f, "the buffer is too small"),
-            Refusal::NoneFree => write!(f, "no id is free"),
-        }
+        f.write_str(match self {
+            Refusal::VectorsOutOfRange => "the number of vectors is out of range",
+            Refusal::NotJoined => "the id is not joined",
+            Refusal::StateUnsound => "the state is not sound",
+            Refusal::BufferTooSmall => "the buffer is too small",
+            Refusal::NoneFree => "no id is free",
+        })
     }
 }
+
+impl Error for Refusal {}

@@ -13,8 +13,8 @@ use Rattle.server.specs.Messages.{leave_messages}
 use Rattle.server.specs.Parts.{notices_bytes}
 use Rattle.server.proofs.leave_as.Goals as goal
 
-pub put_notices-told-requires : goal.put_notices-told-requires
-put_notices-told-requires c =
+pub put_notices-requires : goal.put_notices-requires
+put_notices-requires c =
     let a = c.args in
     let e = c.requires.0 in
     let h = joined_below_lem a.server.joined a.id e in
@@ -28,8 +28,9 @@ returns c =
     let now = joined_without a.server.joined a.id in
     let room = leave_room now a.id h (without_same a.server.joined a.id e) in
     let w = c.without-staying.ensures in
-    let count : 10 * c.put_notices-told.result ≡ length (notices_bytes (OfLeaver a.id) (clients now)) =
-    omega (arith, rw w at c.put_notices-told.ensures.1) in
+    let count : 10 * c.put_notices.new.self.messages ≡ length (notices_bytes (OfLeaver a.id) (clients now)) =
+    omega (arith, rw w at c.put_notices.ensures.messages) in
+    let same = c.put_notices.ensures.same in
+    let out = rw w at c.put_notices.ensures.out in
     rw w
-    (serves_done a.id (leave_messages (clients now) a.id) _ _ a.out.now _ _ (leave_bytes now a.id) (omega (arith, room))
-    (rw w at c.put_notices-told.ensures.0) count)
+    (serves_done a.id (leave_messages (clients now) a.id) _ _ a.out.now _ _ (leave_bytes now a.id) (omega (arith, room)) (grind arith) count)
