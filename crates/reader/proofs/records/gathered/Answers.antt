@@ -3,8 +3,9 @@ use Prim.Native.Nat.{◌+◌, ◌-◌}
 use mathlib.Core.Path.{◌≡◌, ◌∙◌}
 use native.Mathlib.Omega.{arith}
 use lib.ListN.{length, take}
-use lib.Seq.{length-take-le}
+use lib.Seq.{sets, length-take-le}
 use borrow.Author.Rules.{rules}
+use borrow.Rule.Slice.PartMut.{put_mid}
 use Rattle.common.proofs.StoredLaws.{part_back}
 use Rattle.reader.proofs.PlaceLaws.{room_filled}
 use Rattle.reader.proofs.records.gathered.Goals as goal
@@ -17,5 +18,7 @@ returns c =
     let n : a.held + room - a.held ≡ room = omega arith in
     let put : c.copy_from_slice.new.self ≡ take room a.input.now = c.copy_from_slice.ensures.after in
     let long : length (take room a.input.now) ≡ room = length-take-le room a.input.now (omega arith) in
-    rw (put, n) (part_back a.bytes (take room a.input.now) a.held room long (omega arith))
+    let back : put_mid a.held (a.held + room - a.held) a.bytes c.copy_from_slice.new.self ≡ sets a.bytes a.held (take room a.input.now) =
+    rw (put, n) (part_back a.bytes (take room a.input.now) a.held room long (omega arith)) in
+    back
     ∙ room_filled a.bytes a.input.now a.held room eight c.requires c.min-room.ensures
