@@ -1,18 +1,27 @@
--- The bytes held with the input behind them, place by place.
-use Prim.Native.Nat.{ℕ, suc, min, ◌+◌, ◌-◌, ◌≤◌, ◌<◌}
+-- The bytes held with the input behind them, as the code puts them place by place.
+use Prim.Native.Nat.{ℕ, suc, ◌+◌, ◌-◌, ◌≤◌, ◌<◌}
 use mathlib.Core.Bool.{Bool, true, false, cond}
 use mathlib.Core.List.{List, [], ◌∷◌, ◌++◌, append_assoc}
 use mathlib.Core.Path.{◌≡◌, refl, sym, ap, ◌∙◌}
 use native.Mathlib.Omega.{arith}
 use lib.Dec.{ltb}
-use lib.ListN.{length, take, drop, get_or, length-append, get_or-append}
+use lib.ListN.{length, take, drop, get_or, length-append, get_or-append, get_or-eq_default}
 use lib.Seq.{sets, sets-eq, length-sets, length-take-le, get_or-append-add, get_or-take, get_or-drop, drop-cons, ext_get_or}
 use borrow.Author.Tests.{ltb-true, ltb-false, lt-ltb, le-ltb}
+use Rattle.std.proofs.lemmas.List.{get_or_default}
 use Rattle.common.specs.Bytes.{number}
 use Rattle.common.specs.Lists.{tabulate}
-use Rattle.common.proofs.ListLaws.{length_tabulate, get_d_tabulate, tabulate_ext}
+use Rattle.common.proofs.ListLaws.{length_tabulate, get_d_tabulate}
 use Rattle.reader.specs.Parts.{placed}
 use Rattle.reader.specs.Records.{signed, record_in, record_of}
+
+-- an element where there is one
+pub get_or_cond : (l : List ℕ) (i d : ℕ) → get_or l i d ≡ cond (ltb i (length l)) (get_or l i 0) d
+get_or_cond l i d = by (ltb i (length l)) refl
+  where
+    by : (t : Bool) → ltb i (length l) ≡ t → get_or l i d ≡ cond (ltb i (length l)) (get_or l i 0) d
+    by true e = rw e (get_or_default l i d 0 (ltb-true i (length l) e))
+    by false e = rw e (get_or-eq_default l d (ltb-false i (length l) e))
 
 -- a byte of two lists, the first a front
 front : (l ys : List ℕ) (n k : ℕ) → n ≤ length l → get_or (take n l ++ ys) k 0 ≡ cond (ltb k n) (get_or l k 0) (get_or ys (k - n) 0)
@@ -67,37 +76,6 @@ module _ (bytes input : List ℕ) (held : ℕ) (eight : length bytes ≡ 8) (roo
   all_held =
       ext_get_or 0 _ _ (length_tabulate 8 (placed bytes held input) ∙ sym (length-sets bytes held input ∙ eight))
       (λ k l. get_d_tabulate 8 (placed bytes held input) k 0 (rw length_tabulate at l) ∙ held_at k)
-
--- where all the input for which there is room is put behind the bytes held
-module _ (bytes input : List ℕ) (held n : ℕ) (eight : length bytes ≡ 8) (few : held ≤ 8) (room : n ≡ min (length input) (8 - held)) where
-  long : length (take n input) ≡ n
-  long = length-take-le n input (omega arith)
-
-  -- what comes behind it has no place
-  placed_front : (k : ℕ) → k < 8 → placed bytes held (take n input) k ≡ placed bytes held input k
-  unfolding placed
-  placed_front k h = by (ltb k held) refl
-    where
-      by_input : held ≤ k → (t : Bool) → ltb (k - held) n ≡ t
-          → cond (ltb (k - held) (length (take n input))) (get_or (take n input) (k - held) 0) (get_or bytes k 0)
-          ≡ cond (ltb (k - held) (length input)) (get_or input (k - held) 0) (get_or bytes k 0)
-      by_input l true e =
-          let i : k - held < n = ltb-true (k - held) n e in
-          rw (long, e, lt-ltb (k - held) (length input) (omega arith), get_or-take n input (k - held) 0 i)
-      by_input l false e =
-          let i : n ≤ k - held = ltb-false (k - held) n e in
-          rw (long, e, le-ltb (k - held) (length input) (omega arith))
-
-      by : (t : Bool) → ltb k held ≡ t
-          → cond (ltb k held) (get_or bytes k 0) (cond (ltb (k - held) (length (take n input))) (get_or (take n input) (k - held) 0) (get_or bytes k 0))
-          ≡ cond (ltb k held) (get_or bytes k 0) (cond (ltb (k - held) (length input)) (get_or input (k - held) 0) (get_or bytes k 0))
-      by true e = rw e
-      by false e = rw e (by_input (ltb-false k held e) (ltb (k - held) n) refl)
-
-  pub room_filled : sets bytes held (take n input) ≡ tabulate 8 (placed bytes held input)
-  room_filled =
-      sym (all_held bytes (take n input) held eight (rw long (omega arith)))
-      ∙ tabulate_ext 8 (placed bytes held (take n input)) (placed bytes held input) placed_front
 
 -- where a record is whole: its nine bytes are the eight places and the next of the input
 module _ (bytes input : List ℕ) (held : ℕ) (eight : length bytes ≡ 8) (few : held ≤ 8) (whole : 9 - held ≤ length input) where

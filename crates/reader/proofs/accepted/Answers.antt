@@ -15,9 +15,6 @@ use Rattle.reader.specs.Steps.{Result, result_with, known, read_record}
 use Rattle.common.specs.Lists.{tabulate}
 use Rattle.reader.proofs.accepted.Goals as goal
 
-pub gathered-bytes-requires : goal.gathered-bytes-requires
-gathered-bytes-requires c = (good_facts c.args.vectors (state c.args.progress c.args.counts.now) c.requires.good).held
-
 pub overflow_sub-wanted : goal.overflow_sub-wanted
 overflow_sub-wanted c =
     let g = good_facts c.args.vectors (state c.args.progress c.args.counts.now) c.requires.good in

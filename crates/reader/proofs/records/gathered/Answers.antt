@@ -1,21 +1,12 @@
--- `reader::records::gathered` meets its contract.
-use Prim.Native.Nat.{◌+◌, ◌-◌}
-use mathlib.Core.Path.{◌≡◌, ◌∙◌}
-use native.Mathlib.Omega.{arith}
-use lib.ListN.{length, take}
-use lib.Seq.{length-take-le}
+use mathlib.Core.Path.{◌∙◌, sym}
+use lib.Seq.{ext_get_or}
 use borrow.Author.Rules.{rules}
-use Rattle.common.proofs.StoredLaws.{part_back}
-use Rattle.reader.proofs.PlaceLaws.{room_filled}
+use Rattle.common.proofs.ListLaws.{length_tabulate, get_d_tabulate}
+use Rattle.reader.specs.Parts.{placed}
 use Rattle.reader.proofs.records.gathered.Goals as goal
 
 pub returns : goal.returns
 returns c =
-    let a = c.args in
-    let room = c.min-room.result in
-    let eight : length a.bytes ≡ 8 = search rules in
-    let n : a.held + room - a.held ≡ room = omega arith in
-    let put : c.copy_from_slice.new.self ≡ take room a.input.now = c.copy_from_slice.ensures.after in
-    let long : length (take room a.input.now) ≡ room = length-take-le room a.input.now (omega arith) in
-    rw (put, n) (part_back a.bytes (take room a.input.now) a.held room long (omega arith))
-    ∙ room_filled a.bytes a.input.now a.held room eight c.requires c.min-room.ensures
+    let p = placed c.args.bytes c.args.held c.args.input.now in
+    let i = c.loop-k.invariant in
+    ext_get_or 0 _ _ (i.0 ∙ sym (length_tabulate 8 p)) (λ j l. i.1 j (search rules) ∙ sym (get_d_tabulate 8 p j 0 (search rules)))
