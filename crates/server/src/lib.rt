@@ -96,6 +96,7 @@ impl Served {
     }
 }
 
+// A function of its own, since `start` and `check` both ask it, and it is the definition server/Serving.in_range.
 #[tactic(auto, unfolding(crate::specs::Serving::in_range, reader::specs::Sizes::most_vectors))]
 fn in_range(vectors: u64) -> bool
     ensures { result ≡ in_range vectors }
