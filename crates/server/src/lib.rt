@@ -7,8 +7,7 @@ mod messages;
 mod notices;
 mod refusals;
 
-ghost use Rattle.std.specs.Prelude.{◌≡◌, ◌*◌, ◌≤◌, ◌<◌, true, false, length, Ok, MatchResult};
-ghost use Rattle.std.proofs.lemmas.List.Edits.{sets};
+ghost use Rattle.std.specs.Prelude.{◌≡◌, ◌≤◌, ◌<◌, true, false, length, Ok, MatchResult};
 ghost use Rattle.reader.specs.Sizes.{ids};
 ghost use Rattle.server.specs.Clients.{is_joined};
 ghost use Rattle.server.specs.Messages.{buffer_bytes};
