@@ -22,7 +22,7 @@ use Rattle.common.specs.Bytes.{bytes}
 use Rattle.server.specs.Messages.{each_of, bytes_of, sent_bytes, most_sent, buffer_bytes}
 use Rattle.server.specs.declared.messages.Said.TheVariants.{Vector}
 use Rattle.server.specs.declared.notices.Notice.TheVariants.{ToJoiner, OfJoiner, OfLeaver}
-use Rattle.server.specs.Parts.{message_of, written, written_times, notice_times, notice_to, notice_bytes, notices_bytes, start_bytes, join_bytes}
+use Rattle.server.specs.Parts.{message_of, written, written_times, notice_times, notice_bytes, notices_bytes, start_bytes, join_bytes}
 use Rattle.server.specs.Serving.{in_range}
 
 pub times_length : (n : ℕ) (m : Message) → length (written_times n m) ≡ 10 * n
@@ -75,9 +75,6 @@ leave_room joined id h free =
 module _ (n : Notice) (joined : ℕ) where
   pub notice_one : (client : ℕ) → is_joined joined client ≡ true → notices_bytes n (joined_at joined client) ≡ notice_bytes n client
   notice_one client e = rw (at_joined joined client e) (each_one (notice_bytes n) client)
-
-  pub notice_one_length : (client : ℕ) → is_joined joined client ≡ true → length (notices_bytes n (joined_at joined client)) ≡ 10 * notice_times n
-  notice_one_length client e = rw (notice_one client e) (times_length (notice_times n) (notice_to n client))
 
   pub notice_none : (client : ℕ) → is_joined joined client ≡ false → notices_bytes n (joined_at joined client) ≡ []
   unfolding each_of

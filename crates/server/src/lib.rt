@@ -7,8 +7,7 @@ mod messages;
 mod notices;
 mod refusals;
 
-ghost use Rattle.std.specs.Prelude.{◌≡◌, ◌*◌, ◌≤◌, ◌<◌, true, false, length, Ok, MatchResult};
-ghost use Rattle.std.proofs.lemmas.List.Edits.{sets};
+ghost use Rattle.std.specs.Prelude.{◌≡◌, ◌≤◌, ◌<◌, true, false, length, Ok, MatchResult};
 ghost use Rattle.reader.specs.Sizes.{ids};
 ghost use Rattle.server.specs.Clients.{is_joined};
 ghost use Rattle.server.specs.Messages.{buffer_bytes};
@@ -96,6 +95,7 @@ impl Served {
     }
 }
 
+// A function of its own, since `start` and `check` both ask it, and it is the definition server/Serving.in_range.
 #[tactic(auto, unfolding(crate::specs::Serving::in_range, reader::specs::Sizes::most_vectors))]
 fn in_range(vectors: u64) -> bool
     ensures { result ≡ in_range vectors }

@@ -1,6 +1,5 @@
 // Messages in a lent buffer: one byte of client id, and a record of nine.
-ghost use Rattle.std.specs.Prelude.{◌≡◌, ◌+◌, ◌*◌, ◌≤◌, length};
-ghost use Rattle.std.proofs.lemmas.List.Edits.{sets};
+ghost use Rattle.std.specs.Prelude.{◌≡◌};
 ghost use Rattle.reader.specs.Records.{Record};
 ghost use Rattle.server.specs.Messages.{unsigned};
 ghost use Rattle.server.specs.Parts.{record_of_said, written, written_times};

@@ -1,6 +1,5 @@
 // Messages for each client that is joined, ids ascending.
-ghost use Rattle.std.specs.Prelude.{◌≡◌, ◌+◌, ◌*◌, ◌≤◌, ◌<◌, length};
-ghost use Rattle.std.proofs.lemmas.List.Edits.{sets};
+ghost use Rattle.std.specs.Prelude.{◌≡◌, ◌<◌};
 ghost use Rattle.reader.specs.Sizes.{ids};
 ghost use Rattle.server.specs.Clients.{joined_at, clients};
 ghost use Rattle.server.specs.Parts.{notice_times, notice_to, notices_bytes};

@@ -33,4 +33,4 @@ returns c =
     let same = c.put_notices.ensures.same in
     let out = rw w at c.put_notices.ensures.out in
     rw w
-    (serves_done a.id (leave_messages (clients now) a.id) _ _ a.out.now _ _ (leave_bytes now a.id) (omega (arith, room)) (grind arith) count)
+    (serves_done a.id (leave_messages (clients now) a.id) _ _ a.out.now _ _ (leave_bytes now a.id) (omega (arith, room)) (grind (arith, out, same)) count)
