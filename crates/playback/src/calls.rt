@@ -1,5 +1,5 @@
 // The calls that records ask for: one function for each kind, as the hub has one for each. All are inlined, and so are `call` and the
-// functions that write an answer: else each answer is copied with the room for a list of deliveries, and a read takes 1.4 of the time.
+// functions that write an answer: else each answer is copied with the room for a list of deliveries, and a read takes 1.2 of the time.
 ghost use Rattle.std.specs.Prelude.{◌≡◌, ℕ, List, [], ◌∷◌, IfOk};
 ghost use Rattle.device.specs.Call.{Act};
 ghost use Rattle.device.specs.Sizes.{max_peers};

@@ -97,8 +97,7 @@ impl Record {
         self.number == -1
     }
 
-    // The id that the number is, if it is one. By two comparisons: with `u8::try_from` a record takes 1.08 of the time, and one after a
-    // close 1.3.
+    // The id that the number is, if it is one. By two comparisons: with `u8::try_from` a record takes 1.08 of the time.
     pub fn id(self) -> Option<u8>
         ensures { IdOf (told self).value result }
     {

@@ -37,7 +37,7 @@ pub fn section_of(s: Settings, offset: u64, length: u64) -> SectionKind
     requires range { 0 < length }
     ensures { result ≡ section_of s offset length }
 {
-    // A far offset does not come to the division, which would be one of 64 bits for it: 1.4 to 1.6 of the time of a refused load.
+    // A far offset does not come to the division, which would be one of 64 bits for it: a refused store takes 1.3 of the time so.
     if MOST_BYTES < offset {
         return SectionKind::Nothing;
     }
