@@ -131,7 +131,7 @@ impl Bench {
         }
     }
 
-    // What stands after `@` is not written. Not inlined, since the copy of the memory would be cleared for each comment too.
+    // What stands after `@` is not written. Not inlined, since the copies of memory and region would be cleared for each comment too.
     #[inline(never)]
     fn answer(&mut self, rt: &impl Print, line: &[u8], case: Case) {
         let end = line.iter().position(|b| *b == b'@').unwrap_or(line.len());
@@ -139,14 +139,17 @@ impl Bench {
         say(rt, case.middle());
         let lengths = self.lengths;
         self.lengths = case.lengths(lengths);
-        let memory = self.memory;
+        let [place, ..] = case.numbers;
+        let held = self.memory.get(place as usize).copied();
+        self.prepare(case);
         self.call(rt, case);
         match case.kind {
-            Kind::Changed => self.memory = memory,
-            Kind::Cut => {
-                self.memory = memory;
-                self.lengths = lengths;
-            }
+            Kind::Changed => if let Some(word) = self.memory.get_mut(place as usize)
+                && let Some(held) = held
+            {
+                *word = held;
+            },
+            Kind::Cut => self.lengths = lengths,
             _ => {}
         }
     }
@@ -169,9 +172,8 @@ impl Bench {
         }
     }
 
-    // On the parts of the memory and of the region that are lent.
+    // On the parts of the memory and of the region that are lent. After a call on words that are changed or cut, they are as before it.
     fn call(&mut self, rt: &impl Print, case: Case) {
-        self.prepare(case);
         let memory = self.memory;
         let region = self.region;
         let Lengths {
@@ -197,5 +199,8 @@ impl Bench {
             say(rt, change);
         }
         say(rt, ending);
+        if matches!(case.kind, Kind::Changed | Kind::Cut) {
+            self.memory = memory;
+        }
     }
 }

@@ -158,8 +158,7 @@ impl Writer<'_> {
     }
 }
 
-// A join with an id that is free. Not inlined, so that a refused join has fewer registers to save.
-#[inline(never)]
+// A join with an id that is free.
 fn join_as(server: Server, id: u8, out: &mut [u8]) -> Accepted
     requires { (in_range server.vectors ≡ true) × (id < ids) × (is_joined server.joined id ≡ false) × (buffer_bytes ≤ length out.old) }
     ensures { Serves (join_as server id) out.old out.new (served_as server (Ok result)) }
