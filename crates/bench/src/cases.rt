@@ -124,24 +124,32 @@ impl Bench {
         }
     }
 
-    // What stands after `@` is not written.
+    // A line that is no case says nothing.
     pub fn run(&mut self, rt: &impl Print, line: &[u8]) {
-        let Some(case) = Case::of(line) else {
-            return;
-        };
+        if let Some(case) = Case::of(line) {
+            self.answer(rt, line, case);
+        }
+    }
+
+    // What stands after `@` is not written. Not inlined, since the copies of memory and region would be cleared for each comment too.
+    #[inline(never)]
+    fn answer(&mut self, rt: &impl Print, line: &[u8], case: Case) {
         let end = line.iter().position(|b| *b == b'@').unwrap_or(line.len());
         let _ = rt.write_all(&line[..end]);
         say(rt, case.middle());
         let lengths = self.lengths;
         self.lengths = case.lengths(lengths);
-        let memory = self.memory;
+        let [place, ..] = case.numbers;
+        let held = self.memory.get(place as usize).copied();
+        self.prepare(case);
         self.call(rt, case);
         match case.kind {
-            Kind::Changed => self.memory = memory,
-            Kind::Cut => {
-                self.memory = memory;
-                self.lengths = lengths;
-            }
+            Kind::Changed => if let Some(word) = self.memory.get_mut(place as usize)
+                && let Some(held) = held
+            {
+                *word = held;
+            },
+            Kind::Cut => self.lengths = lengths,
             _ => {}
         }
     }
@@ -164,9 +172,8 @@ impl Bench {
         }
     }
 
-    // On the parts of the memory and of the region that are lent.
+    // On the parts of the memory and of the region that are lent. After a call on words that are changed or cut, they are as before it.
     fn call(&mut self, rt: &impl Print, case: Case) {
-        self.prepare(case);
         let memory = self.memory;
         let region = self.region;
         let Lengths {
@@ -192,5 +199,8 @@ impl Bench {
             say(rt, change);
         }
         say(rt, ending);
+        if matches!(case.kind, Kind::Changed | Kind::Cut) {
+            self.memory = memory;
+        }
     }
 }

@@ -11,13 +11,23 @@ pub fn clear(region: &mut [u8])
     region.fill(0);
 }
 
+// Byte by byte, and not the slice's own `copy_from_slice`: that calls the host's memmove, and a host supplies memset alone.
+fn copy(part: &mut [u8], bytes: &[u8])
+    requires { length bytes.now ≡ length part.old }
+    ensures { part.new ≡ bytes.now }
+{
+    for (k, byte) in bytes.iter().enumerate() {
+        part[k] = *byte;
+    }
+}
+
 // Fills the buffer with the bytes from an offset on.
 pub fn load(region: &[u8], offset: usize, buffer: &mut [u8])
     requires { offset + length buffer.old ≤ length region.now }
     ensures { buffer.new ≡ take (length buffer.old) (drop offset region.now) }
 {
     let end = offset + buffer.len();
-    buffer.copy_from_slice(&region[offset..end]);
+    copy(buffer, &region[offset..end]);
 }
 
 // Stores bytes from an offset on, and changes no other byte.
@@ -27,7 +37,7 @@ pub fn store(region: &mut [u8], offset: usize, stored: &[u8])
     ensures { region.new ≡ sets region.old offset stored.now }
 {
     let end = offset + stored.len();
-    region[offset..end].copy_from_slice(stored);
+    copy(&mut region[offset..end], stored);
 }
 
 // A word's four bytes, little-endian.

@@ -80,12 +80,26 @@ worth l (suc k) h =
     ) (ap (λ (s : ℕ). number (take (suc k) l) + s) (mul_comm (256 ^ suc k) b))
     )
 
+-- std's number of bytes is the definition's, wherever they stand in a record
+module _ (l : List ℕ) where
+  whole_number : (k : ℕ) → length l ≡ suc k → sum_through (λ i. byte_worth i (slice_index l i)) k ≡ number l
+  whole_number k n = worth l k (omega arith) ∙ ap number (ap (λ (m : ℕ). take m l) (sym n) ∙ take-length l)
+
+  pub two_worth : length l ≡ 2 → from_le_bytes w16 l ≡ number l
+  two_worth = whole_number 1
+
+  pub four_worth : length l ≡ 4 → from_le_bytes w32 l ≡ number l
+  four_worth = whole_number 3
+
+  pub eight_worth : length l ≡ 8 → from_le_bytes w64 l ≡ number l
+  eight_worth = whole_number 7
+
 -- a field is the number of its bytes
 module _ (at : ℕ) (r l : List ℕ) where
   part_number : (k : ℕ) → l ≡ take (suc k) (drop at r) → length l ≡ suc k
       → sum_through (λ i. byte_worth i (slice_index l i)) k ≡ field at (suc k) r
   unfolding field
-  part_number k e n = worth l k (omega arith) ∙ ap number (ap (λ (m : ℕ). take m l) (sym n) ∙ take-length l ∙ e)
+  part_number k e n = whole_number l k n ∙ ap number e
 
   pub one_number : l ≡ take 1 (drop at r) → length l ≡ 1 → slice_index l 0 ≡ field at 1 r
   one_number = part_number 0

@@ -82,6 +82,7 @@ fn served(hub: &[u32], list: Deliveries, out: &mut [u8; super::LONGEST_ANSWER]) 
     1 + 17 * ids.len()
 }
 
+#[inline(always)]
 fn write_accepted(hub: &[u32], answer: Accepted, out: &mut [u8; super::LONGEST_ANSWER]) -> usize
     ensures { Writes out.old out.new (accepted_bytes (hub_of hub.now) answer) result }
 {
@@ -93,6 +94,7 @@ fn write_accepted(hub: &[u32], answer: Accepted, out: &mut [u8; super::LONGEST_A
 }
 
 // A call's answer, on the hub as it is after the call.
+#[inline(always)]
 pub fn write(
     hub: &[u32],
     outcome: Result<Accepted, Refusal>,

@@ -1,4 +1,5 @@
-// The calls that records ask for: one function for each kind, as the hub has one for each.
+// The calls that records ask for: one function for each kind, as the hub has one for each. All are inlined, and so are `call` and the
+// functions that write an answer: else each answer is copied with the room for a list of deliveries, and a read takes 1.2 of the time.
 ghost use Rattle.std.specs.Prelude.{◌≡◌, ℕ, List, [], ◌∷◌, IfOk};
 ghost use Rattle.device.specs.Call.{Act};
 ghost use Rattle.device.specs.Sizes.{max_peers};
@@ -12,6 +13,7 @@ use super::fields::Fields;
 use device::Settings;
 use hub::Refusal;
 
+#[inline(always)]
 pub fn set_up(hub: &mut [u32], region: &mut [u8], s: Settings) -> Result<Accepted, Refusal>
     ensures sets { SetsUp hub.old hub.new region.old region.new s (done_reply result) }
     ensures done { IfOk result (λ answer. answer ≡ Accepted.Done) }
@@ -20,6 +22,7 @@ pub fn set_up(hub: &mut [u32], region: &mut [u8], s: Settings) -> Result<Accepte
     Ok(Accepted::Done)
 }
 
+#[inline(always)]
 pub fn connect(hub: &mut [u32], fields: Fields) -> Result<Accepted, Refusal>
     ensures { (region : List ℕ) → Answers hub.old hub.new region region
         (Request.does (call_in fields.entry.bytes.now Act.connect)) result }
@@ -28,6 +31,7 @@ pub fn connect(hub: &mut [u32], fields: Fields) -> Result<Accepted, Refusal>
     Ok(Accepted::Done)
 }
 
+#[inline(always)]
 pub fn disconnect(hub: &mut [u32], region: &mut [u8], fields: Fields) -> Result<Accepted, Refusal>
     ensures { Answers hub.old hub.new region.old region.new
         (Request.does (call_in fields.entry.bytes.now (Act.disconnect max_peers))) result }
@@ -36,6 +40,7 @@ pub fn disconnect(hub: &mut [u32], region: &mut [u8], fields: Fields) -> Result<
     Ok(Accepted::Delivered(list))
 }
 
+#[inline(always)]
 pub fn reset(hub: &mut [u32], region: &mut [u8], fields: Fields) -> Result<Accepted, Refusal>
     ensures { Answers hub.old hub.new region.old region.new
         (Request.does (call_in fields.entry.bytes.now (Act.reset max_peers))) result }
@@ -44,6 +49,7 @@ pub fn reset(hub: &mut [u32], region: &mut [u8], fields: Fields) -> Result<Accep
     Ok(Accepted::Delivered(list))
 }
 
+#[inline(always)]
 pub fn configuration_read(hub: &[u32], fields: Fields) -> Result<Accepted, Refusal>
     ensures { (region : List ℕ) → Answers hub.now hub.now region region
         (Request.reads (call_in fields.entry.bytes.now (Act.configuration_read (field 3 2 fields.entry.bytes.now)
@@ -53,6 +59,7 @@ pub fn configuration_read(hub: &[u32], fields: Fields) -> Result<Accepted, Refus
     Ok(Accepted::Value(value))
 }
 
+#[inline(always)]
 pub fn configuration_write(hub: &mut [u32], fields: Fields) -> Result<Accepted, Refusal>
     ensures { (region : List ℕ) → Answers hub.old hub.new region region
         (Request.does (call_in fields.entry.bytes.now (Act.configuration_write (field 3 2 fields.entry.bytes.now)
@@ -68,6 +75,7 @@ pub fn configuration_write(hub: &mut [u32], fields: Fields) -> Result<Accepted, 
     Ok(Accepted::Done)
 }
 
+#[inline(always)]
 pub fn register_read(hub: &[u32], fields: Fields) -> Result<Accepted, Refusal>
     ensures { (region : List ℕ) → Answers hub.now hub.now region region
         (Request.reads (call_in fields.entry.bytes.now (Act.register_read (field 3 2 fields.entry.bytes.now) 4))) result }
@@ -76,6 +84,7 @@ pub fn register_read(hub: &[u32], fields: Fields) -> Result<Accepted, Refusal>
     Ok(Accepted::Value(value))
 }
 
+#[inline(always)]
 pub fn register_write(
     hub: &mut [u32],
     region: &mut [u8],
@@ -98,6 +107,7 @@ pub fn register_write(
     Ok(Accepted::Delivered(list))
 }
 
+#[inline(always)]
 pub fn msix_read(hub: &[u32], fields: Fields) -> Result<Accepted, Refusal>
     ensures { (region : List ℕ) → Answers hub.now hub.now region region
         (Request.reads (call_in fields.entry.bytes.now (Act.msix_read (field 3 2 fields.entry.bytes.now) 4))) result }
@@ -106,6 +116,7 @@ pub fn msix_read(hub: &[u32], fields: Fields) -> Result<Accepted, Refusal>
     Ok(Accepted::Value(value))
 }
 
+#[inline(always)]
 pub fn msix_write(hub: &mut [u32], fields: Fields) -> Result<Accepted, Refusal>
     ensures { (region : List ℕ) → Answers hub.old hub.new region region
         (Request.does (call_in fields.entry.bytes.now (Act.msix_write (field 3 2 fields.entry.bytes.now) 4
@@ -115,6 +126,7 @@ pub fn msix_write(hub: &mut [u32], fields: Fields) -> Result<Accepted, Refusal>
     Ok(Accepted::Done)
 }
 
+#[inline(always)]
 pub fn load(hub: &[u32], region: &[u8], fields: Fields) -> Result<Accepted, Refusal>
     ensures { Answers hub.now hub.now region.now region.now
         (Request.loads (call_in fields.entry.bytes.now (Act.load (field 3 4 fields.entry.bytes.now) 1))) result }
@@ -130,6 +142,7 @@ pub fn load(hub: &[u32], region: &[u8], fields: Fields) -> Result<Accepted, Refu
     Ok(Accepted::Value(u32::from(loaded[0])))
 }
 
+#[inline(always)]
 pub fn store(hub: &[u32], region: &mut [u8], fields: Fields) -> Result<Accepted, Refusal>
     ensures { Answers hub.now hub.now region.old region.new
         (Request.does (call_in fields.entry.bytes.now (Act.store (field 3 4 fields.entry.bytes.now)

@@ -82,7 +82,7 @@ impl fmt::Display for Refusal {
 
 impl Error for Refusal {}
 
-// What one byte leaves: no `Report`, since a byte is always taken.
+// What a whole record leaves: no `Report`, since its bytes are always taken.
 #[derive(Clone, Copy)]
 struct Taken {
     progress: Progress,
@@ -130,38 +130,36 @@ fn admit(hub: &[u32], region: &[u8], held: &[u8], p: Progress, room: usize) -> R
     Ok(())
 }
 
-// One byte more.
+// One byte more: the bytes written. The progress is changed where it stands: handed on by value it is copied, with its padding, for each
+// byte.
 fn take_byte(
     hub: &mut [u32],
     region: &mut [u8],
     held: &mut [u8],
-    p: Progress,
+    p: &mut Progress,
     byte: u8,
     out: &mut [u8],
-) -> Taken
-    requires lent { Lent hub.old region.old held.old p }
+) -> usize
+    requires lent { Lent hub.old region.old held.old p.old }
     requires room { longest ≤ length out.old }
-    ensures { Goes hub.new region.new held.new out.old out.new
-        result.progress result.written (fed (player_in hub.old region.old held.old p) byte) }
+    ensures { Goes hub.new region.new held.new out.old out.new p.new result (fed (player_in hub.old region.old held.old p.old) byte) }
 {
     if p.stopped {
-        return Taken {
-            progress: p,
-            written: 0,
-        };
+        return 0;
     }
     let at = p.held;
     held[at] = byte;
     let n = at + 1;
     if n < records::length(held[0]) {
-        let progress = Progress { held: n, ..p };
-        return Taken {
-            progress,
-            written: 0,
-        };
+        p.held = n;
+        return 0;
     }
     match out.first_chunk_mut() {
-        Some(room) => records::answer(hub, region, Fields::of(held), p, room),
+        Some(room) => {
+            let t = records::answer(hub, region, Fields::of(held), *p, room);
+            *p = t.progress;
+            t.written
+        }
         None => unreachable!(),
     }
 }
@@ -192,9 +190,8 @@ fn feed_lent(
                 written,
             };
         }
-        let t = take_byte(hub, region, held, progress, *byte, &mut out[written..]);
-        progress = t.progress;
-        written += t.written;
+        let more = take_byte(hub, region, held, &mut progress, *byte, &mut out[written..]);
+        written += more;
     }
     Report {
         progress,

@@ -78,6 +78,7 @@ fn set_up(
 }
 
 // A call, by its kind. The hub and the region are the parts of the lent memory that are in use.
+#[inline(always)]
 fn call(kind: Kind, hub: &mut [u32], region: &mut [u8], fields: Fields) -> Result<Accepted, Refusal>
     requires { 0 < kind_number kind }
     ensures { Answers hub.old hub.new region.old region.new
@@ -118,12 +119,14 @@ fn play(
     }
     let outcome = call(kind, &mut hub[..p.words], &mut region[..p.bytes], fields);
     let written = answers::write(&hub[..p.words], outcome, out);
-    let progress = Progress {
-        held: 0,
-        stopped: false,
-        ..p
-    };
-    Taken { progress, written }
+    Taken {
+        progress: Progress {
+            held: 0,
+            stopped: false,
+            ..p
+        },
+        written,
+    }
 }
 
 // A whole record, on the lent memory.
@@ -144,13 +147,12 @@ pub fn answer(
         Ok(kind) => play(kind, hub, region, fields, p, out),
         Err(UnknownKind) => {
             out[0] = 0x85;
-            let progress = Progress {
-                held: 0,
-                stopped: true,
-                ..p
-            };
             Taken {
-                progress,
+                progress: Progress {
+                    held: 0,
+                    stopped: true,
+                    ..p
+                },
                 written: 1,
             }
         }

@@ -1,21 +1,16 @@
 -- Signed numbers of 64 bits: what their bits are compared with, and what their order tells.
 use Prim.Native.Nat.{ℕ, zero, suc, ◌+◌, ◌-◌, ◌^◌, ◌≤◌, ◌<◌}
-use mathlib.Core.Bool.{Bool, true, false}
+use mathlib.Core.Bool.{Bool, true, false, ◌&&◌}
 use mathlib.Core.Path.{◌≡◌, refl, ap}
 use native.Mathlib.Omega.{arith}
 use lib.Dec.{eqb, ltb}
 use lib.IntN.{ℤ, pos, negsuc, nat_abs, ◌-ℤ◌}
+use lib.Signed.{le_z, lt_z}
 use mir.Syntax.{w64}
 use mir.Val.{SFits, of_z, to_z}
 use mir.ValLaws.{to_z_pos}
-use borrow.Author.Tests.{lt-ltb, le-ltb, ne_eqb, eq-eqb, ltb-true, ltb-false, eqb-true}
-use Rattle.std.specs.Prelude.{Option, None, Result, Ok, Err, MatchOption, unsigned_abs}
-use Rattle.std.specs.Bool.{then_some}
-use Rattle.std.specs.Int.{FitsUnsignedBits}
-use Rattle.std.specs.Result.{OkIff, result_ok}
+use borrow.Author.Tests.{lt-ltb, le-ltb, le-leb, ne_eqb, eq-eqb, ltb-true, ltb-false, eqb-true}
 use Rattle.common.proofs.TestLaws.{alike}
-use Rattle.reader.proofs.SizeLaws.{ids_byte}
-use Rattle.reader.specs.Parts.{IdOf}
 use Rattle.reader.specs.Records.{signed}
 use Rattle.reader.specs.Sizes.{ids}
 use Rattle.reader.specs.Steps.{is_version, is_id, id_of, is_memory}
@@ -58,15 +53,18 @@ memory_bits (negsuc n) f =
     (λ e. let q = eqb-true (2 ^ 64 - suc n) (2 ^ 64 - 1) e in eq-eqb n 0 (omega arith))
     (λ e. let q = eqb-true n 0 e in eq-eqb (2 ^ 64 - suc n) (2 ^ 64 - 1) (omega arith))
 
--- An id is a number that fits a byte and is below the number of ids: `o` is what is left of the byte `r`.
-pub id_kept : {E : Type 0} (z : ℤ) (r : Result ℕ E) (o : Option ℕ) → OkIff r (FitsUnsignedBits 8 z) (unsigned_abs z)
-    → MatchOption (result_ok r) (o ≡ None) (λ n. o ≡ then_some (ltb n ids) n) → IdOf z o
+-- ids: from 0 on, and below their number
+pub id_order : (z : ℤ) → le_z (pos 0) z && lt_z z (pos ids) ≡ is_id z
+unfolding is_id
+id_order (pos n) = rw (le-leb 0 n (omega arith))
+id_order (negsuc n) = refl
+
+-- an id is the number's magnitude
+pub record IdNumber (z : ℤ) : Type 0 where
+  pub is : nat_abs z ≡ id_of z
+  pub below : nat_abs z < ids
+
+pub id_number : (z : ℤ) → is_id z ≡ true → IdNumber z
 unfolding is_id id_of
-id_kept (pos n) (Ok m) o fits kept = by (ltb n ids) refl
-  where
-    by : (t : Bool) → ltb n ids ≡ t → IdOf (pos n) o
-    by true e = rw (kept, fits.1, e) (refl, (refl, ltb-true n ids e))
-    by false e = rw (kept, fits.1, e) refl
-id_kept (negsuc n) (Ok m) o fits kept = absurd fits.0
-id_kept (pos n) (Err e) o large kept = rw kept (le-ltb n ids (omega (arith, ids_byte, large)))
-id_kept (negsuc n) (Err e) o large kept = rw kept refl
+id_number (pos n) e = record { is = refl; below = ltb-true n ids e }
+id_number (negsuc n) e = let z : ◌≡◌ {A = ℕ} 0 1 = cc in absurd (omega arith)

@@ -68,6 +68,7 @@ impl Known<'_> {
         Message::Closed
     }
 
+    #[tactic(auto, unfolding(crate::specs::Steps::version_step), using(crate::proofs::LeaveLaws::leaves_same))]
     fn version_due(&mut self, heard: Record) -> Message
         ensures { Leaves self.old self.new result (version_step (known_by self.old) (told heard)) }
     {

@@ -1,14 +1,18 @@
 // The deliveries of one run, in order.
+ghost use Rattle.std.specs.Prelude.{◌<◌, IfSome};
+
 use super::guest::Guest;
 use deliveries::Deliveries;
 use device::{Delivery, Vector};
-use std::alloc::{AllocError, Global};
 use std::fmt;
 
-// A delivery, and the guest that it went to.
+// More than a run has.
+const ROOM: usize = 32;
+
+// A delivery, and the guest that it went to: none where the id is no guest's.
 #[derive(Clone, Copy)]
 pub struct Message {
-    pub guest: Guest,
+    pub guest: Option<Guest>,
     pub delivery: Delivery,
 }
 
@@ -24,35 +28,46 @@ impl fmt::Display for Message {
     }
 }
 
-#[derive(Drop)]
+// An array and no Vec, so that no run ends where memory runs out.
+#[derive(Clone, Copy)]
 pub struct Log {
-    messages: Vec<Message>,
+    // None behind the last
+    messages: [Option<Message>; ROOM],
 }
 
 impl Log {
-    pub fn new(alloc: Global) -> Self {
+    pub fn new() -> Self {
         Self {
-            messages: Vec::new(alloc),
+            messages: [None; ROOM],
         }
     }
 
+    fn room(&self) -> Option<usize>
+        ensures { IfSome result (λ k. k < 32) }
+    {
+        self.messages.iter().position(|m| m.is_none())
+    }
+
     // Logs the deliveries of a call, made from the hub that it left, and returns them.
-    pub fn add(&mut self, hub: &[u32], list: &Deliveries) -> Result<&[Message], AllocError> {
-        let before = self.messages.len();
+    pub fn add(&mut self, hub: &[u32], list: &Deliveries) -> &[Option<Message>] {
+        let before = self.room().unwrap_or(ROOM);
         for id in list.delivered() {
-            if let Some(guest) = Guest::with_id(*id) {
-                let delivery = deliveries::sent(hub, *id, list.vector);
-                self.messages.push(Message { guest, delivery })?;
+            if let Some(place) = self.room() {
+                self.messages[place] = Some(Message {
+                    guest: Guest::with_id(*id),
+                    delivery: deliveries::sent(hub, *id, list.vector),
+                });
             }
         }
-        Ok(&self.messages[before..])
+        &self.messages[before..]
     }
 
     // How many deliveries a guest got, of the vectors from `least` on.
     pub fn count(&self, guest: Guest, least: u16) -> usize {
         self.messages
             .iter()
-            .filter(|m| m.guest == guest && m.delivery.vector.0 >= least)
+            .flatten()
+            .filter(|m| m.guest == Some(guest) && m.delivery.vector.0 >= least)
             .count()
     }
 }
@@ -69,7 +84,13 @@ impl fmt::Display for Summary<'_> {
         let guest = self.guest;
         let count = self.log.count(guest, 0);
         write!(f, "{guest} got {count}:")?;
-        for message in self.log.messages.iter().filter(|m| m.guest == guest) {
+        for message in self
+            .log
+            .messages
+            .iter()
+            .flatten()
+            .filter(|m| m.guest == Some(guest))
+        {
             write!(f, " {message}")?;
         }
         Ok(())

@@ -16,6 +16,10 @@ impl<'a, R: Print> Printer<'a, R> {
         Self { rt, steps: 0 }
     }
 
+    pub fn restart(&mut self) {
+        self.steps = 0;
+    }
+
     // A write that fails is let go, and the program goes on.
     pub fn line(&self, text: impl Display + Drop) {
         let _ = self.rt.println(text);
@@ -66,18 +70,23 @@ impl Display for Bytes<'_> {
 
 // The deliveries of a call, in ring order.
 #[derive(Clone, Copy)]
-pub struct Delivered<'a>(pub &'a [Message]);
+pub struct Delivered<'a>(pub &'a [Option<Message>]);
 
 impl Display for Delivered<'_> {
     fn fmt<W: fmt::Write>(&self, f: &mut fmt::Formatter<W>) -> fmt::Result {
         f.write_str(", delivered: ")?;
-        if self.0.is_empty() {
+        if !matches!(self.0, [Some(_), ..]) {
             return f.write_str("nothing");
         }
-        for (place, message) in self.0.iter().enumerate() {
+        for (place, message) in self.0.iter().flatten().enumerate() {
             let separator = if place == 0 { "" } else { ", " };
             let Message { guest, delivery } = message;
-            write!(f, "{separator}{guest} vector {}", delivery.vector.0)?;
+            f.write_str(separator)?;
+            match guest {
+                Some(guest) => write!(f, "{guest}")?,
+                None => f.write_str("host")?,
+            }
+            write!(f, " vector {}", delivery.vector.0)?;
         }
         Ok(())
     }

@@ -1,7 +1,6 @@
 // The two runs: a double tap without one-shot mode, then with it.
 use super::guest::Guest;
 use super::terminal::Terminal;
-use std::alloc::AllocError;
 
 // Offsets in the shared region.
 const ORDERS_STATE: u64 = 8;
@@ -15,7 +14,7 @@ const PLANNER_OUTPUT: u64 = 12288;
 // The lengths of two pieces; one slab is to have both.
 const BASKET: [u8; 2] = [12, 6];
 
-impl<R: Print + AllocGlobal> Terminal<'_, R> {
+impl<R: Print> Terminal<'_, R> {
     // Four guests, with one-shot mode at orders on or off.
     fn prepare(&mut self, one_shot: bool) {
         self.set_up();
@@ -48,9 +47,9 @@ impl<R: Print + AllocGlobal> Terminal<'_, R> {
     }
 
     // The orders guest takes the length, and cuts.
-    fn order(&mut self) -> Result<(), AllocError> {
+    fn order(&mut self) {
         self.load(Guest::Orders, "load length", PLANNER_OUTPUT, &mut [0]);
-        self.cut()
+        self.cut();
     }
 
     // The card terminal reads how many slabs were cut in the State Table, and leaves what it charged in R/W.
@@ -85,60 +84,54 @@ impl<R: Print + AllocGlobal> Terminal<'_, R> {
         );
     }
 
-    fn double_tap(&mut self) -> Result<(), AllocError> {
-        self.press()?;
-        self.press()?;
+    fn double_tap(&mut self) {
+        self.press();
+        self.press();
         self.interrupt_control(Guest::Orders);
-        Ok(())
     }
 
-    fn sale(&mut self) -> Result<(), AllocError> {
+    fn sale(&mut self) {
         self.plan();
-        self.double_tap()?;
-        self.order()?;
+        self.double_tap();
+        self.order();
         self.pay();
-        Ok(())
     }
 
     // The guest has handled its order: the next press is a new one.
-    fn second_sale(&mut self) -> Result<(), AllocError> {
-        self.rearm()?;
-        self.press()?;
-        self.cut()?;
-        self.rearm()
+    fn second_sale(&mut self) {
+        self.rearm();
+        self.press();
+        self.cut();
+        self.rearm();
     }
 
     // The planner saves twice, and the others are rung once.
-    fn saves(&mut self) -> Result<(), AllocError> {
-        self.save()?;
-        self.save()
+    fn saves(&mut self) {
+        self.save();
+        self.save();
     }
 }
 
 // Both taps are delivered: two slabs for one order.
-pub fn first<R: Print + AllocGlobal>(rt: &R) -> Result<(), AllocError> {
-    let mut terminal = Terminal::new(rt);
-    terminal.title("run 1: one-shot off at orders");
+pub fn first<R: Print>(terminal: &mut Terminal<'_, R>) {
+    terminal.begin("run 1: one-shot off at orders");
     terminal.prepare(false);
     terminal.basket();
     terminal.refused_store();
-    terminal.sale()?;
-    terminal.saves()?;
-    terminal.reset(Guest::Planner)?;
+    terminal.sale();
+    terminal.saves();
+    terminal.reset(Guest::Planner);
     terminal.report();
-    Ok(())
 }
 
 // The second tap is lost; a press after the guest has re-armed is delivered. The touch guest leaves with State 0,
 // so nobody is rung.
-pub fn second<R: Print + AllocGlobal>(rt: &R) -> Result<(), AllocError> {
-    let mut terminal = Terminal::new(rt);
-    terminal.title("run 2: one-shot on at orders");
+pub fn second<R: Print>(terminal: &mut Terminal<'_, R>) {
+    terminal.begin("run 2: one-shot on at orders");
     terminal.prepare(true);
     terminal.basket();
-    terminal.sale()?;
-    terminal.second_sale()?;
-    terminal.disconnect(Guest::Touch)?;
+    terminal.sale();
+    terminal.second_sale();
+    terminal.disconnect(Guest::Touch);
     terminal.report();
-    Ok(())
 }

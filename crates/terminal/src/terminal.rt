@@ -5,7 +5,6 @@ use super::print::{Bytes, Delivered, Printer, Value};
 use deliveries::Deliveries;
 use device::Settings;
 use hub::Refusal;
-use std::alloc::AllocError;
 use std::fmt::Display;
 
 const PEERS: u16 = 4;
@@ -52,17 +51,20 @@ pub struct Terminal<'a, R: Print> {
     printer: Printer<'a, R>,
 }
 
-impl<'a, R: Print + AllocGlobal> Terminal<'a, R> {
+impl<'a, R: Print> Terminal<'a, R> {
     pub fn new(rt: &'a R) -> Self {
         Self {
             hub: [0; HUB_WORDS],
             region: [0; REGION_BYTES],
-            log: Log::new(rt.alloc()),
+            log: Log::new(),
             printer: Printer::new(rt),
         }
     }
 
-    pub fn title(&self, title: &str) {
+    // A run begins with an empty log and with step 1, on the hub and the region as they are.
+    pub fn begin(&mut self, title: &str) {
+        self.log = Log::new();
+        self.printer.restart();
         self.printer.line(title);
     }
 
@@ -193,52 +195,51 @@ impl<'a, R: Print + AllocGlobal> Terminal<'a, R> {
         who: impl Display + Drop,
         what: impl Display + Drop,
         answer: Result<Deliveries, Refusal>,
-    ) -> Result<(), AllocError> {
+    ) {
         let list = answer.unwrap_or(deliveries::none());
-        let messages = self.log.add(&self.hub, &list)?;
+        let messages = self.log.add(&self.hub, &list);
         self.printer
             .step(who, what, answer.map(|_| Delivered(messages)));
-        Ok(())
     }
 
     // The customer presses 'order'. The Doorbell takes an id in its upper half, and a vector in its lower.
-    pub fn press(&mut self) -> Result<(), AllocError> {
+    pub fn press(&mut self) {
         let ring = (Guest::Orders as u32) << 16 | 1;
         let answer = self.write(Guest::Touch, Register::Doorbell, ring);
-        self.served(Guest::Touch, "press, ring orders with vector 1", answer)
+        self.served(Guest::Touch, "press, ring orders with vector 1", answer);
     }
 
     // A slab is cut for each order that was delivered, and their number announced.
-    pub fn cut(&mut self) -> Result<(), AllocError> {
+    pub fn cut(&mut self) {
         let slabs = (self.log.count(Guest::Orders, 1) % 256) as u32;
         let answer = self.write(Guest::Orders, Register::State, slabs);
         self.served(
             Guest::Orders,
             format_args!("cut slabs, store State {slabs}"),
             answer,
-        )
+        );
     }
 
     // The planner announces that it is saving. A State that it holds already rings nobody.
-    pub fn save(&mut self) -> Result<(), AllocError> {
+    pub fn save(&mut self) {
         let answer = self.write(Guest::Planner, Register::State, 1);
-        self.served(Guest::Planner, "save, store State 1", answer)
+        self.served(Guest::Planner, "save, store State 1", answer);
     }
 
     // After a delivery in one-shot mode: interrupts on again.
-    pub fn rearm(&mut self) -> Result<(), AllocError> {
+    pub fn rearm(&mut self) {
         let answer = self.write(Guest::Orders, Register::InterruptControl, 1);
-        self.served(Guest::Orders, "write 1 to Interrupt Control", answer)
+        self.served(Guest::Orders, "write 1 to Interrupt Control", answer);
     }
 
-    pub fn reset(&mut self, guest: Guest) -> Result<(), AllocError> {
+    pub fn reset(&mut self, guest: Guest) {
         let answer = hub::reset(&mut self.hub, &mut self.region, RECORDS, guest.id());
-        self.served("host", format_args!("reset {guest}"), answer)
+        self.served("host", format_args!("reset {guest}"), answer);
     }
 
-    pub fn disconnect(&mut self, guest: Guest) -> Result<(), AllocError> {
+    pub fn disconnect(&mut self, guest: Guest) {
         let answer = hub::disconnect(&mut self.hub, &mut self.region, RECORDS, guest.id());
-        self.served("host", format_args!("disconnect {guest}"), answer)
+        self.served("host", format_args!("disconnect {guest}"), answer);
     }
 
     // The deliveries that each guest got.

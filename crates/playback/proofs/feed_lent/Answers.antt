@@ -15,14 +15,14 @@ returns-then-last-written c =
     let late : length c.args.out.now - longest < c.loop-taken.written = rw c.longest_answer.ensures at c.if-last-written.true in
     record { taken = fed_full _ _ _ _ _ _ _ _ _ _ c.loop-taken.invariant late; goes = c.loop-taken.invariant.goes }
 
-pub take_byte-t-requires : goal.take_byte-t-requires
-take_byte-t-requires c =
+pub take_byte-more-requires : goal.take_byte-more-requires
+take_byte-more-requires c =
     record { lent = c.loop-taken.invariant.goes.lent; room = simp (length-take, length-drop) (omega (arith, c.longest_answer.ensures, c.requires.room)) }
 
 pub loop-taken-preserved : goal.loop-taken-preserved
 loop-taken-preserved c =
     let room : longest ≤ length c.args.out.now - c.loop-taken.written = omega (arith, c.longest_answer.ensures, c.requires.room) in
-    fed_more _ _ _ _ _ _ _ _ _ _ c.loop-taken.invariant _ _ _ _ _ _ c.loop-taken-test.true room c.take_byte-t.ensures
+    fed_more _ _ _ _ _ _ _ _ _ _ c.loop-taken.invariant _ _ _ _ _ _ c.loop-taken-test.true room c.take_byte-more.ensures
 
 pub returns : goal.returns
 returns c =

@@ -7,6 +7,13 @@ use Rattle.sections.proofs.OutputLaws.{beyond, in_table_lem, in_common, in_outpu
 use Rattle.sections.proofs.section_of.Goals as goal
 use Rattle.sections.proofs.section_of.Goals.{else-s-offset-via-then-s-offset+else-end-s-2, else-s-offset-via-else-s-offset}
 
+pub returns-then-offset-gt-MOST_BYTES : goal.returns-then-offset-gt-MOST_BYTES
+returns-then-offset-gt-MOST_BYTES c =
+    let a = c.args in
+    let f = accepted_facts a.s c.requires.numbers in
+    let g = f.whole in
+    sym (beyond a.s a.offset a.length (omega arith))
+
 pub returns-in_default : goal.returns-in_default
 returns-in_default c =
     let a = c.args in
